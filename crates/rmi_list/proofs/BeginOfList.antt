@@ -38,7 +38,7 @@ opening-split c =
 
 -- a draft of this launch that has taken nothing
 pub record IsFresh (c : Config) (d : Draft) : Type 0 where
-  pub config : d.launch.now.config ≡ c
+  pub config : d.config ≡ c
   pub taken : d.taken ≡ 0
 
 pub tables-same : (c : Config) (d : Draft) (n : ℕ) → IsFresh c d → n ≡ start_count c.s2sz
@@ -59,11 +59,11 @@ descriptor-next c d e fresh grows =
 pub descriptor-same : (c : Config) (d e : Draft) → IsFresh c d → Grows d e (table_granules c)
     → (let es : List Entry = Whole (Delegate (granule (pool_of e) e.taken)) ∷ [] in es) ≡ descriptor_granule c
 descriptor-same c d e fresh grows =
-    let config : e.launch.now.config ≡ c = ap (λ (l : _). l.now.config) grows.launch ∙ fresh.config in
+    let config : e.config ≡ c = grows.config ∙ fresh.config in
     ap (λ (t : ℕ). (let es : List Entry = Whole (Delegate (granule (pool_of e) t)) ∷ [] in es)) (descriptor-next c d e fresh grows)
     ∙ ap (λ (k : Config). (let es : List Entry = Whole (Delegate (granule k.pool_base (start_count c.s2sz))) ∷ [] in es)) config
 
-pub realm-same : (c : Config) (e : Draft) (rd : ℕ) → e.launch.now.config ≡ c → rd ≡ start_count c.s2sz
+pub realm-same : (c : Config) (e : Draft) (rd : ℕ) → e.config ≡ c → rd ≡ start_count c.s2sz
     → (let es : List Entry = span_in e (span.RealmCreate rd) in es) ≡ realm_itself c
 realm-same c e rd config at =
     ap (λ (k : Config). (let es : List Entry = Whole (RealmCreate (granule k.pool_base rd) (realm_params k)) ∷ [] in es)) config
@@ -73,7 +73,7 @@ realm-same c e rd config at =
 pub opening-grows : (c : Config) (d e f g : Draft) (rd : ℕ) → IsFresh c d → Grows d e (table_granules c) → Grows e f (descriptor_granule c) → rd ≡ e.taken
     → Grows f g (span_in f (span.RealmCreate rd)) → Grows d g (opening_entries c)
 opening-grows c d e f g rd fresh tables descriptor at realm =
-    let config : f.launch.now.config ≡ c = ap (λ (l : _). l.now.config) (descriptor.launch ∙ tables.launch) ∙ fresh.config in
+    let config : f.config ≡ c = descriptor.config ∙ tables.config ∙ fresh.config in
     let last : Grows f g (realm_itself c) = subst (Grows f g) (realm-same c f rd config (at ∙ descriptor-next c d e fresh tables)) realm in
     rw (opening-split c) (grows-then d e g (table_granules c) (descriptor_granule c ++ realm_itself c) tables (grows-then e f g (descriptor_granule c) (realm_itself c) descriptor last))
 
@@ -83,43 +83,38 @@ pub opening-refused : (c : Config) (d : Draft) (e : StepFault) → IsFresh c d �
 opening-refused c d e fresh (inl memory) = inl memory
 opening-refused c d e fresh (inr full) =
     let es : List Entry = table_granules c ++ (descriptor_granule c ++ realm_itself c) in
-    let small : d.launch.now.config.pool_count < d.taken + delegated es = full.1 in
+    let small : d.config.pool_count < d.taken + delegated es = full.1 in
     let none : d.taken ≡ 0 = fresh.taken in
-    let size : d.launch.now.config.pool_count ≡ c.pool_count = ap (λ (k : Config). k.pool_count) fresh.config in
+    let size : d.config.pool_count ≡ c.pool_count = ap (λ (k : Config). k.pool_count) fresh.config in
     let same : delegated (opening_entries c) ≡ delegated es = ap delegated (opening-split c) in
     inr (omega arith)
 
 -- ---- the begin as the code makes it, from a draft that has taken nothing
 
--- the granules of n start tables are those of the launch's, where n is the number that its configuration asks for
-first-tables : (d : Draft) (asked : Config) (n : ℕ) → asked ≡ d.launch.now.config → n ≡ start_count asked.s2sz → d.taken ≡ 0
-    → delegate_all (granules n (granule (pool_of d) d.taken)) ≡ table_granules d.launch.now.config
-first-tables d asked n config count none =
-    tables-same d.launch.now.config d n (record { config = refl; taken = none }) (count ∙ ap (λ (c : Config). start_count c.s2sz) config)
+-- the granules of n start tables are those of the launch's
+first-tables : (d : Draft) (n : ℕ) → n ≡ start_count d.config.s2sz → d.taken ≡ 0 → delegate_all (granules n (granule (pool_of d) d.taken)) ≡ table_granules d.config
+first-tables d n count none = tables-same d.config d n (record { config = refl; taken = none }) count
 
-pub first-grows : (d e f g : Draft) (asked : Config) (n rd : ℕ) → asked ≡ d.launch.now.config → n ≡ start_count asked.s2sz → d.taken ≡ 0
+pub first-grows : (d e f g : Draft) (n rd : ℕ) → n ≡ start_count d.config.s2sz → d.taken ≡ 0
     → Grows d e (delegate_all (granules n (granule (pool_of d) d.taken))) → Grows e f (Whole (Delegate (granule (pool_of e) e.taken)) ∷ []) → rd ≡ e.taken
-    → Grows f g (span_in f (span.RealmCreate rd)) → Grows d g (opening_entries d.launch.now.config)
-first-grows d e f g asked n rd config count none grown next at realm =
-    let c : Config = d.launch.now.config in
-    let fresh : IsFresh c d = record { config = refl; taken = none } in
-    let tables : Grows d e (table_granules c) = rw (← first-tables d asked n config count none) grown in
-    let descriptor : Grows e f (descriptor_granule c) = rw (← descriptor-same c d e fresh tables) next in
-    opening-grows c d e f g rd fresh tables descriptor at realm
+    → Grows f g (span_in f (span.RealmCreate rd)) → Grows d g (opening_entries d.config)
+first-grows d e f g n rd count none grown next at realm =
+    let fresh : IsFresh d.config d = record { config = refl; taken = none } in
+    let tables : Grows d e (table_granules d.config) = rw (← first-tables d n count none) grown in
+    let descriptor : Grows e f (descriptor_granule d.config) = rw (← descriptor-same d.config d e fresh tables) next in
+    opening-grows d.config d e f g rd fresh tables descriptor at realm
 
-pub first-tables-refused : (d : Draft) (e : StepFault) (asked : Config) (n : ℕ) → asked ≡ d.launch.now.config → n ≡ start_count asked.s2sz → d.taken ≡ 0
-    → Refuses d e (delegate_all (granules n (granule (pool_of d) d.taken)))
-    → (e ≡ fault.NoMemory) ⊎ (d.launch.now.config.pool_count < delegated (opening_entries d.launch.now.config))
-first-tables-refused d e asked n config count none refuses =
-    let c : Config = d.launch.now.config in
-    let refused : Refuses d e (table_granules c) = rw (← first-tables d asked n config count none) refuses in
-    opening-refused c d e (record { config = refl; taken = none }) (refused-first d e (table_granules c) (descriptor_granule c ++ realm_itself c) refused)
+pub first-tables-refused : (d : Draft) (e : StepFault) (n : ℕ) → n ≡ start_count d.config.s2sz → d.taken ≡ 0
+    → Refuses d e (delegate_all (granules n (granule (pool_of d) d.taken))) → (e ≡ fault.NoMemory) ⊎ (d.config.pool_count < delegated (opening_entries d.config))
+first-tables-refused d e n count none refuses =
+    let refused : Refuses d e (table_granules d.config) = rw (← first-tables d n count none) refuses in
+    opening-refused d.config d e (record { config = refl; taken = none }) (refused-first d e (table_granules d.config) (descriptor_granule d.config ++ realm_itself d.config) refused)
 
-pub first-descriptor-refused : (d b : Draft) (e : StepFault) (asked : Config) (n : ℕ) → asked ≡ d.launch.now.config → n ≡ start_count asked.s2sz → d.taken ≡ 0
-    → Grows d b (delegate_all (granules n (granule (pool_of d) d.taken))) → Refuses b e (descriptor_granule d.launch.now.config)
-    → (e ≡ fault.NoMemory) ⊎ (d.launch.now.config.pool_count < delegated (opening_entries d.launch.now.config))
-first-descriptor-refused d b e asked n config count none grown refuses =
-    let c : Config = d.launch.now.config in
-    let tables : Grows d b (table_granules c) = rw (← first-tables d asked n config count none) grown in
-    opening-refused c d e (record { config = refl; taken = none })
-    (refused-later d b e (table_granules c) (descriptor_granule c ++ realm_itself c) tables (refused-first b e (descriptor_granule c) (realm_itself c) refuses))
+pub first-descriptor-refused : (d b : Draft) (e : StepFault) (n : ℕ) → n ≡ start_count d.config.s2sz → d.taken ≡ 0
+    → Grows d b (delegate_all (granules n (granule (pool_of d) d.taken))) → Refuses b e (descriptor_granule d.config)
+    → (e ≡ fault.NoMemory) ⊎ (d.config.pool_count < delegated (opening_entries d.config))
+first-descriptor-refused d b e n count none grown refuses =
+    let tables : Grows d b (table_granules d.config) = rw (← first-tables d n count none) grown in
+    opening-refused d.config d e (record { config = refl; taken = none })
+    (refused-later d b e (table_granules d.config) (descriptor_granule d.config ++ realm_itself d.config) tables
+    (refused-first b e (descriptor_granule d.config) (realm_itself d.config) refuses))

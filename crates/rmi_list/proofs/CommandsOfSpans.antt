@@ -9,6 +9,7 @@ use Rattle.std.proofs.lemmas.List.Concat.{flat_map-append}
 use Rattle.std.proofs.lemmas.List.Elements.{All-append}
 use Rattle.rim_desc.specs.declared.realm.RealmParams.{RealmParams}
 use Rattle.ipa_layout.specs.declared.rec.PlacedRec.{PlacedRec}
+use Rattle.rim_launch.specs.declared.config.Config.{Config}
 use Rattle.rmi_list.specs.declared.span.Span.{Span}
 use Rattle.rmi_list.specs.declared.span.Span.TheVariants as span
 use Rattle.rmi_list.specs.inside.Spans.{IsSpan, commands_in, entries_of, entries_of_span}
@@ -126,7 +127,7 @@ pub table-lists : (old mid new : Draft) (rtt base level : ℕ) → Grows old mid
     → rtt ≡ old.taken → Grows mid new (Whole (RttCreate (granule (pool_of mid) rtt) base level) ∷ [])
     → Grows old new (Whole (Delegate (granule (pool_of old) old.taken)) ∷ Whole (RttCreate (granule (pool_of old) old.taken) base level) ∷ [])
 table-lists old mid new rtt base level first at next =
-    let pool : pool_of mid ≡ pool_of old = ap (λ (l : _). l.now.config.pool_base) first.launch in
+    let pool : pool_of mid ≡ pool_of old = ap (λ (c : Config). c.pool_base) first.config in
     let second : Grows mid new (Whole (RttCreate (granule (pool_of old) rtt) base level) ∷ []) = subst (λ (p : ℕ). Grows mid new (Whole (RttCreate (granule p rtt) base level) ∷ [])) pool next in
     let third : Grows mid new (Whole (RttCreate (granule (pool_of old) old.taken) base level) ∷ []) = subst (λ (n : ℕ). Grows mid new (Whole (RttCreate (granule (pool_of old) n) base level) ∷ [])) at second in
     grows-then old mid new (Whole (Delegate (granule (pool_of old) old.taken)) ∷ []) (Whole (RttCreate (granule (pool_of old) old.taken) base level) ∷ []) first third

@@ -9,19 +9,21 @@ use Rattle.rtt_plan.specs.declared.act.Act.{Act}
 use Rattle.list_model.specs.Entries.{Entry, Whole, delegate_all, delegated, granule}
 use Rattle.list_model.specs.inside.Acts.{ItemOf, act_entries, entries_of_act, pages_in}
 use Rattle.list_model.proofs.GranulesOfEntries.{count-append}
+use Rattle.rim_launch.specs.declared.config.Config.{Config}
 use Rattle.rmi_list.specs.declared.draft.Draft.{Draft}
 use Rattle.rmi_list.specs.declared.step_fault.StepFault.{StepFault}
 use Rattle.rmi_list.specs.inside.Acts.{HasRoom, HaveRoom}
 use Rattle.rmi_list.specs.inside.Drafts.{AreSpans, Grows, InPool, Refuses, entries_in}
 
 abbrev pub pool_of : Draft → ℕ
-pool_of d = d.launch.now.config.pool_base
+pool_of d = d.config.pool_base
 
 -- ---- loops
 
 -- in a loop that adds some entries: these are left to be added, and nothing but entries and granules has changed
 pub record Going (old now : Draft) (all rest : List Entry) : Type 0 where
   pub launch : now.launch ≡ old.launch
+  pub config : now.config ≡ old.config
   pub placed : now.placed ≡ old.placed
   pub tables : now.tables ≡ old.tables
   pub num_recs : now.num_recs ≡ old.num_recs
@@ -31,7 +33,7 @@ pub record Going (old now : Draft) (all rest : List Entry) : Type 0 where
   pub spans : AreSpans old → AreSpans now
 
 pub going-starts : (d : Draft) (all : List Entry) → Going d d all all
-going-starts d all = record { launch = refl; placed = refl; tables = refl; num_recs = refl; entries = refl; taken = refl; pool = λ within. within; spans = λ all. all }
+going-starts d all = record { launch = refl; config = refl; placed = refl; tables = refl; num_recs = refl; entries = refl; taken = refl; pool = λ within. within; spans = λ all. all }
 
 pub going-ends : (old now : Draft) (all rest : List Entry) → Going old now all rest → rest ≡ [] → Grows old now all
 going-ends old now all rest going none =
@@ -39,6 +41,7 @@ going-ends old now all rest going none =
     let count : now.taken + delegated [] ≡ old.taken + delegated all = over.taken in
     record {
       launch = over.launch;
+      config = over.config;
       placed = over.placed;
       tables = over.tables;
       num_recs = over.num_recs;
@@ -52,7 +55,7 @@ going-ends old now all rest going none =
 pub going-on : (old now next : Draft) (all rest : List Entry) (here later : ℕ → List Entry) → Going old now all rest
     → rest ≡ here (pool_of old) ++ later (now.taken + delegated (here (pool_of old))) → Grows now next (here (pool_of now)) → Going old next all (later next.taken)
 going-on old now next all rest here later going split grows =
-    let pool : pool_of now ≡ pool_of old = ap (λ (l : _). l.now.config.pool_base) going.launch in
+    let pool : pool_of now ≡ pool_of old = ap (λ (c : Config). c.pool_base) going.config in
     let grown : Grows now next (here (pool_of old)) = subst (λ (p : ℕ). Grows now next (here p)) pool grows in
     let es : List Entry = here (pool_of old) in
     let more : next.taken ≡ now.taken + delegated es = grown.taken in
@@ -62,6 +65,7 @@ going-on old now next all rest here later going split grows =
     let before : now.taken + delegated rest ≡ old.taken + delegated all = going.taken in
     record {
       launch = grown.launch ∙ going.launch;
+      config = grown.config ∙ going.config;
       placed = grown.placed ∙ going.placed;
       tables = grown.tables ∙ going.tables;
       num_recs = grown.num_recs ∙ going.num_recs;
@@ -78,12 +82,12 @@ going-refused old now all rest here later e going split (inl memory) = inl memor
 going-refused old now all rest here later e going split (inr full) =
     let es : List Entry = here (pool_of old) in
     let others : List Entry = later (now.taken + delegated es) in
-    let pool : pool_of now ≡ pool_of old = ap (λ (l : _). l.now.config.pool_base) going.launch in
-    let size : now.launch.now.config.pool_count ≡ old.launch.now.config.pool_count = ap (λ (l : _). l.now.config.pool_count) going.launch in
+    let pool : pool_of now ≡ pool_of old = ap (λ (c : Config). c.pool_base) going.config in
+    let size : now.config.pool_count ≡ old.config.pool_count = ap (λ (c : Config). c.pool_count) going.config in
     let count : delegated (es ++ others) ≡ delegated es + delegated others = count-append es others in
     let same : delegated rest ≡ delegated (es ++ others) = ap delegated split in
     let before : now.taken + delegated rest ≡ old.taken + delegated all = going.taken in
-    let small : now.launch.now.config.pool_count < now.taken + delegated es = subst (λ (p : ℕ). now.launch.now.config.pool_count < now.taken + delegated (here p)) pool full.1 in
+    let small : now.config.pool_count < now.taken + delegated es = subst (λ (p : ℕ). now.config.pool_count < now.taken + delegated (here p)) pool full.1 in
     inr (full.0, omega arith)
 
 -- ---- granules that are delegated

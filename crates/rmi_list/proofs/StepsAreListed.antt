@@ -99,6 +99,7 @@ nothing old = record { entries = []; next = progress_of old }
 makes-nothing : (old : Draft) → InPool old → Makes old old (nothing old)
 makes-nothing old within = record {
   launch = refl;
+  config = refl;
   placed = refl;
   entries = sym (append-nil (entries_in old));
   taken = omega arith;
@@ -113,17 +114,18 @@ makes-nothing old within = record {
 planned-continues : {A U : Type 0} (old new : Draft) (extent : Option IpaRange) (t after : Planned) (checks : List (Check PlanFault)) (a ok : A)
     (es : List Entry) (result : Result U StepFault) → InPool old
     → unless_refused checks a ≡ Ok ok → AgreesWith t after → Lists (record old { tables = t }) new result es
-    → Continues old new extent result (unless_refused (plan_checks checks ++ pool_check old.launch.now.config old.taken es ∷ []) (listing old after es))
+    → Continues old new extent result (unless_refused (plan_checks checks ++ pool_check old.config old.taken es ∷ []) (listing old after es))
 planned-continues old new extent t after checks a ok es (Ok u) within passed agrees grows =
     let made = listing old after es in
     let size : InPool new = grows.pool within in
     let taken : new.taken ≡ old.taken + delegated es = grows.taken in
-    let pool : new.launch.now.config.pool_count ≡ old.launch.now.config.pool_count = ap (λ (l : _). l.now.config.pool_count) grows.launch in
-    let off : nat_lt old.launch.now.config.pool_count (old.taken + delegated es) ≡ false = grind (arith, nat_tests) in (
+    let pool : new.config.pool_count ≡ old.config.pool_count = ap (λ (c : Config). c.pool_count) grows.config in
+    let off : nat_lt old.config.pool_count (old.taken + delegated es) ≡ false = grind (arith, nat_tests) in (
       made,
-      passed-front checks a ok (pool_check old.launch.now.config old.taken es ∷ []) made passed ∙ rw off refl,
+      passed-front checks a ok (pool_check old.config old.taken es ∷ []) made passed ∙ rw off refl,
       record {
         launch = grows.launch;
+        config = grows.config;
         placed = grows.placed;
         entries = grows.entries;
         taken = grows.taken;
@@ -135,16 +137,16 @@ planned-continues old new extent t after checks a ok es (Ok u) within passed agr
 planned-continues old new extent t after checks a ok es (Err e) within passed agrees (inl memory) = inl memory
 planned-continues old new extent t after checks a ok es (Err e) within passed agrees (inr full) =
     let made = listing old after es in
-    let small : old.launch.now.config.pool_count < old.taken + delegated es = full.1 in
-    let on : nat_lt old.launch.now.config.pool_count (old.taken + delegated es) ≡ true = grind (arith, nat_tests) in
-    inr (step_reason.PoolEnd, full.0, passed-front checks a ok (pool_check old.launch.now.config old.taken es ∷ []) made passed ∙ rw on refl, tt)
+    let small : old.config.pool_count < old.taken + delegated es = full.1 in
+    let on : nat_lt old.config.pool_count (old.taken + delegated es) ≡ true = grind (arith, nat_tests) in
+    inr (step_reason.PoolEnd, full.0, passed-front checks a ok (pool_check old.config old.taken es ∷ []) made passed ∙ rw on refl, tt)
 
 -- ---- regions
 
 pub region-continues : {U : Type 0} (old new : Draft) (t : Planned) (r : Region) (acts : List Act) (result : Result U StepFault) → InPool old
     → plan_region old.tables r.base r.end ≡ Ok acts → AgreesWith t (after_region old.tables r.base r.end)
     → Lists (record old { tables = t }) new result (act_entries (pool_of old) old.taken None 0 acts)
-    → Continues old new (Some (region_range r)) result (list_region old.launch.now.config (progress_of old) r)
+    → Continues old new (Some (region_range r)) result (list_region old.config (progress_of old) r)
 unfolding plan_region list_region
 region-continues old new t r acts result within planned agrees lists =
     let p : Planned = old.tables in
@@ -158,10 +160,10 @@ region-continues old new t r acts result within planned agrees lists =
     (subst (Lists (record old { tables = t }) new result) listed lists)
 
 pub region-refused : (old : Draft) (r : Region) (e : PlanFault) → (e ≡ plan.NoMemory) ⊎ (plan_region old.tables r.base r.end ≡ Err e)
-    → IsStepFault (Some (region_range r)) old.num_recs (plan_fault e (region_range r)) (list_region old.launch.now.config (progress_of old) r)
+    → IsStepFault (Some (region_range r)) old.num_recs (plan_fault e (region_range r)) (list_region old.config (progress_of old) r)
 unfolding plan_region list_region
 region-refused old r e h =
-    let c : Config = old.launch.now.config in
+    let c : Config = old.config in
     let es : List Entry = region_entries c.pool_base old.taken old.tables r.base r.end in
     let made : Listing = listing old (after_region old.tables r.base r.end) es in
     plan-refused e (region_range r) old.num_recs (plan_region old.tables r.base r.end) (list_region c (progress_of old) r)
@@ -172,7 +174,7 @@ region-refused old r e h =
 pub item-continues : {U : Type 0} (old new : Draft) (t : Planned) (number : ℕ) (item : PlacedItem) (acts : List Act) (result : Result U StepFault) → InPool old
     → eqb item.pages 0 ≡ false → plan_data old.tables (page_base item) item.pages ≡ Ok acts → AgreesWith t (after_data old.tables (page_base item) item.pages)
     → Lists (record old { tables = t }) new result (act_entries (pool_of old) old.taken (Some (page_content item, number)) 0 acts)
-    → Continues old new (Some (item_range item)) result (list_item old.launch.now.config (progress_of old) number item)
+    → Continues old new (Some (item_range item)) result (list_item old.config (progress_of old) number item)
 unfolding plan_data list_item
 item-continues old new t number item acts result within some planned agrees lists =
     let p : Planned = old.tables in
@@ -188,10 +190,10 @@ item-continues old new t number item acts result within some planned agrees list
 
 pub item-refused : (old : Draft) (number : ℕ) (item : PlacedItem) (e : PlanFault) → eqb item.pages 0 ≡ false
     → (e ≡ plan.NoMemory) ⊎ (plan_data old.tables (page_base item) item.pages ≡ Err e)
-    → IsStepFault (Some (item_range item)) old.num_recs (plan_fault e (item_range item)) (list_item old.launch.now.config (progress_of old) number item)
+    → IsStepFault (Some (item_range item)) old.num_recs (plan_fault e (item_range item)) (list_item old.config (progress_of old) number item)
 unfolding plan_data list_item
 item-refused old number item e some h =
-    let c : Config = old.launch.now.config in
+    let c : Config = old.config in
     let base : ℕ = page_base item in
     let es : List Entry = item_entries c.pool_base old.taken old.tables (page_content item) number base item.pages in
     let made : Listing = listing old (after_data old.tables base item.pages) es in
@@ -201,7 +203,7 @@ item-refused old number item e some h =
     (refused-front (data_checks old.tables base item.pages) (data_acts old.tables base item.pages) e last made) h)
 
 pub item-idle : (old : Draft) (number : ℕ) (item : PlacedItem) → InPool old → eqb item.pages 0 ≡ true
-    → (done : Listing) × (list_item old.launch.now.config (progress_of old) number item ≡ Ok done) × Makes old old done
+    → (done : Listing) × (list_item old.config (progress_of old) number item ≡ Ok done) × Makes old old done
 unfolding list_item
 item-idle old number item within none = rw none (nothing old, refl, makes-nothing old within)
 
@@ -214,6 +216,7 @@ grows-then a b d es fs first second =
     let two : d.taken ≡ b.taken + delegated fs = second.taken in
     record {
       launch = second.launch ∙ first.launch;
+      config = second.config ∙ first.config;
       placed = second.placed ∙ first.placed;
       tables = second.tables ∙ first.tables;
       num_recs = second.num_recs ∙ first.num_recs;
@@ -228,7 +231,7 @@ pub refused-first : (a : Draft) (e : StepFault) (es fs : List Entry) → Refuses
 refused-first a e es fs (inl memory) = inl memory
 refused-first a e es fs (inr full) =
     let count : delegated (es ++ fs) ≡ delegated es + delegated fs = count-append es fs in
-    let small : a.launch.now.config.pool_count < a.taken + delegated es = full.1 in
+    let small : a.config.pool_count < a.taken + delegated es = full.1 in
     inr (full.0, omega arith)
 
 pub refused-later : (a b : Draft) (e : StepFault) (es fs : List Entry) → Grows a b es → Refuses b e fs → Refuses a e (es ++ fs)
@@ -236,8 +239,8 @@ refused-later a b e es fs grows (inl memory) = inl memory
 refused-later a b e es fs grows (inr full) =
     let count : delegated (es ++ fs) ≡ delegated es + delegated fs = count-append es fs in
     let more : b.taken ≡ a.taken + delegated es = grows.taken in
-    let size : b.launch.now.config.pool_count ≡ a.launch.now.config.pool_count = ap (λ (l : _). l.now.config.pool_count) grows.launch in
-    let small : b.launch.now.config.pool_count < b.taken + delegated fs = full.1 in
+    let size : b.config.pool_count ≡ a.config.pool_count = ap (λ (c : Config). c.pool_count) grows.config in
+    let small : b.config.pool_count < b.taken + delegated fs = full.1 in
     inr (full.0, omega arith)
 
 -- the entries of a REC, as they are listed: its own granule, the others, and the REC
@@ -245,21 +248,21 @@ abbrev pub own_granule : Draft → List Entry
 own_granule old = Whole (Delegate (granule (pool_of old) old.taken)) ∷ []
 
 abbrev pub aux_granules : Draft → List Entry
-aux_granules old = delegate_all (granules old.launch.now.config.num_aux (granule (pool_of old) (old.taken + 1)))
+aux_granules old = delegate_all (granules old.config.num_aux (granule (pool_of old) (old.taken + 1)))
 
 abbrev pub params_at : Draft → ℕ → PlacedRec → RecData
-params_at old number r = rec_params number r (granules old.launch.now.config.num_aux (granule (pool_of old) (old.taken + 1)))
+params_at old number r = rec_params number r (granules old.config.num_aux (granule (pool_of old) (old.taken + 1)))
 
 abbrev pub rec_itself : Draft → ℕ → PlacedRec → List Entry
 rec_itself old number r = Whole (RecCreate (granule (pool_of old) old.taken) (params_at old number r)) ∷ []
 
 abbrev all_of_rec : Draft → ℕ → PlacedRec → List Entry
-all_of_rec old number r = rec_entries (pool_of old) old.taken old.launch.now.config.num_aux (params_at old number r)
+all_of_rec old number r = rec_entries (pool_of old) old.taken old.config.num_aux (params_at old number r)
 
 rec-split : (old : Draft) (number : ℕ) (r : PlacedRec) → all_of_rec old number r ≡ own_granule old ++ (aux_granules old ++ rec_itself old number r)
 unfolding granules
 rec-split old number r =
-    let e : old.launch.now.config.num_aux + 1 ≡ suc old.launch.now.config.num_aux = omega arith in
+    let e : old.config.num_aux + 1 ≡ suc old.config.num_aux = omega arith in
     let f : granule (pool_of old) (old.taken + 1) ≡ granule (pool_of old) old.taken + 4096 = omega arith in
     rw (e, f) refl
 
@@ -270,31 +273,31 @@ order-on : (number num_recs : ℕ) → (number ≡ num_recs → ⊥) → not (eq
 order-on number num_recs e = grind (arith, nat_tests)
 
 pub rec-out-of-order : (old : Draft) (number : ℕ) (r : PlacedRec) → (number ≡ old.num_recs → ⊥)
-    → list_rec old.launch.now.config (progress_of old) number r ≡ Err fault.RecOrder
+    → list_rec old.config (progress_of old) number r ≡ Err fault.RecOrder
 unfolding list_rec
 rec-out-of-order old number r other = rw (order-on number old.num_recs other) refl
 
-pub rec-not-runnable : (old : Draft) (number : ℕ) (r : PlacedRec) → number ≡ old.num_recs → lacks_rule old.launch.now.config.rec_rule r ≡ true
-    → list_rec old.launch.now.config (progress_of old) number r ≡ Err fault.RecNotRunnable
+pub rec-not-runnable : (old : Draft) (number : ℕ) (r : PlacedRec) → number ≡ old.num_recs → lacks_rule old.config.rec_rule r ≡ true
+    → list_rec old.config (progress_of old) number r ≡ Err fault.RecNotRunnable
 unfolding list_rec
 rec-not-runnable old number r order off = rw (order-off number old.num_recs order, off) refl
 
 -- a REC of which some granule is refused
-pub rec-refused : (old : Draft) (number : ℕ) (r : PlacedRec) (e : StepFault) → number ≡ old.num_recs → lacks_rule old.launch.now.config.rec_rule r ≡ false
+pub rec-refused : (old : Draft) (number : ℕ) (r : PlacedRec) (e : StepFault) → number ≡ old.num_recs → lacks_rule old.config.rec_rule r ≡ false
     → Refuses old e (own_granule old ++ (aux_granules old ++ rec_itself old number r))
-    → IsStepFault None old.num_recs e (list_rec old.launch.now.config (progress_of old) number r)
+    → IsStepFault None old.num_recs e (list_rec old.config (progress_of old) number r)
 unfolding list_rec
 rec-refused old number r e order on (inl memory) = inl memory
 rec-refused old number r e order on (inr full) =
-    let small : old.launch.now.config.pool_count < old.taken + delegated (own_granule old ++ (aux_granules old ++ rec_itself old number r)) = full.1 in
-    let over : old.launch.now.config.pool_count < old.taken + delegated (all_of_rec old number r) = rw (rec-split old number r) small in
-    let test : nat_lt old.launch.now.config.pool_count (old.taken + delegated (all_of_rec old number r)) ≡ true = grind (arith, nat_tests) in
+    let small : old.config.pool_count < old.taken + delegated (own_granule old ++ (aux_granules old ++ rec_itself old number r)) = full.1 in
+    let over : old.config.pool_count < old.taken + delegated (all_of_rec old number r) = rw (rec-split old number r) small in
+    let test : nat_lt old.config.pool_count (old.taken + delegated (all_of_rec old number r)) ≡ true = grind (arith, nat_tests) in
     inr (step_reason.PoolEnd, full.0, rw (order-off number old.num_recs order) (rw test (rw on refl)), tt)
 
 -- a REC that is listed
-pub rec-makes : (old new : Draft) (number : ℕ) (r : PlacedRec) → InPool old → number ≡ old.num_recs → lacks_rule old.launch.now.config.rec_rule r ≡ false
+pub rec-makes : (old new : Draft) (number : ℕ) (r : PlacedRec) → InPool old → number ≡ old.num_recs → lacks_rule old.config.rec_rule r ≡ false
     → Grows old new (own_granule old ++ (aux_granules old ++ rec_itself old number r))
-    → (done : Listing) × (list_rec old.launch.now.config (progress_of old) number r ≡ Ok done) × Makes old (record new { num_recs = new.num_recs + 1 }) done
+    → (done : Listing) × (list_rec old.config (progress_of old) number r ≡ Ok done) × Makes old (record new { num_recs = new.num_recs + 1 }) done
 unfolding list_rec
 rec-makes old new number r within order on grown =
     let es : List Entry = all_of_rec old number r in
@@ -302,12 +305,13 @@ rec-makes old new number r within order on grown =
     let made : Listing = record { entries = es; next = record (progress_of old) { taken = old.taken + delegated es; num_recs = old.num_recs + 1 } } in
     let size : InPool new = grows.pool within in
     let taken : new.taken ≡ old.taken + delegated es = grows.taken in
-    let pool : new.launch.now.config.pool_count ≡ old.launch.now.config.pool_count = ap (λ (l : _). l.now.config.pool_count) grows.launch in
-    let off : nat_lt old.launch.now.config.pool_count (old.taken + delegated es) ≡ false = grind (arith, nat_tests) in (
+    let pool : new.config.pool_count ≡ old.config.pool_count = ap (λ (c : Config). c.pool_count) grows.config in
+    let off : nat_lt old.config.pool_count (old.taken + delegated es) ≡ false = grind (arith, nat_tests) in (
       made,
       rw (order-off number old.num_recs order) (rw off (rw on refl)),
       record {
         launch = grows.launch;
+        config = grows.config;
         placed = grows.placed;
         entries = grows.entries;
         taken = grows.taken;
@@ -318,26 +322,23 @@ rec-makes old new number r within order on grown =
     )
 
 -- the auxiliary granules come after the REC's own
-pub aux-same : (old now : Draft) (config : Config) → Grows old now (own_granule old) → config ≡ now.launch.now.config
-    → delegate_all (granules config.num_aux (granule (pool_of now) now.taken)) ≡ aux_granules old
-aux-same old now config grows same =
-    let own : config ≡ old.launch.now.config = same ∙ ap (λ (l : _). l.now.config) grows.launch in
-    let pool : pool_of now ≡ pool_of old = ap (λ (l : _). l.now.config.pool_base) grows.launch in
-    ap (λ (c : Config). delegate_all (granules c.num_aux (granule (pool_of now) now.taken))) own
-    ∙ ap (λ (p : ℕ). delegate_all (granules old.launch.now.config.num_aux (granule p now.taken))) pool
-    ∙ ap (λ (t : ℕ). delegate_all (granules old.launch.now.config.num_aux (granule (pool_of old) t))) grows.taken
+pub aux-same : (old now : Draft) → Grows old now (own_granule old)
+    → delegate_all (granules now.config.num_aux (granule (pool_of now) now.taken)) ≡ aux_granules old
+aux-same old now grows =
+    ap (λ (c : Config). delegate_all (granules c.num_aux (granule c.pool_base now.taken))) grows.config
+    ∙ ap (λ (t : ℕ). delegate_all (granules old.config.num_aux (granule (pool_of old) t))) grows.taken
 
 named-rec : (pool num_aux n number : ℕ) (o : Option PlacedRec) (r : PlacedRec) → o ≡ Some r
     → rec_entry pool num_aux n number o ≡ Whole (RecCreate (granule pool n) (rec_params number r (granules num_aux (granule pool (n + 1)))))
 named-rec pool num_aux n number o r at = rw at refl
 
 -- the REC itself, by its number among the launch's RECs
-pub rec-same : (old now : Draft) (n number : ℕ) (r : PlacedRec) → now.launch ≡ old.launch → now.placed ≡ old.placed → n ≡ old.taken
+pub rec-same : (old now : Draft) (n number : ℕ) (r : PlacedRec) → now.config ≡ old.config → now.placed ≡ old.placed → n ≡ old.taken
     → slice_get old.placed.now.recs number ≡ Some r → span_in now (span.RecCreate n number) ≡ rec_itself old number r
-rec-same old now n number r launch placed at own =
+rec-same old now n number r config placed at own =
     let found : slice_get now.placed.now.recs number ≡ Some r = ap (λ (p : _). slice_get p.now.recs number) placed ∙ own in
-    let by_number = named-rec (pool_of now) now.launch.now.config.num_aux n number (slice_get now.placed.now.recs number) r found in
-    ap (λ e. e ∷ []) (by_number ∙ ap (λ (l : _). entry l.now.config n) launch ∙ ap (entry old.launch.now.config) at)
+    let by_number = named-rec (pool_of now) now.config.num_aux n number (slice_get now.placed.now.recs number) r found in
+    ap (λ e. e ∷ []) (by_number ∙ ap (λ (c : Config). entry c n) config ∙ ap (entry old.config) at)
   where
     entry : Config → ℕ → Entry
     entry c m = Whole (RecCreate (granule c.pool_base m) (rec_params number r (granules c.num_aux (granule c.pool_base (m + 1)))))

@@ -15,13 +15,15 @@ use crate::step_fault::StepFault;
 use ipa_layout::Placed;
 use list_model::PageContent;
 use refusal::NoMemory;
-use rim_launch::Launch;
+use rim_launch::{Config, Launch};
 use rtt_plan::{Act, Tables};
 
 /// The commands of a launch that were listed so far, and what they made.
 #[derive(Drop)]
 pub struct Draft<'a> {
     pub launch: &'a Launch,
+    /// The launch's configuration, or that with another pool.
+    pub config: Config,
     pub placed: &'a Placed,
     /// The tables, the RAM and the pages of data.
     pub tables: Tables,
@@ -52,11 +54,11 @@ impl<'a> Draft<'a> {
 
     /// Takes the next granule of the pool, and lists that it is delegated; its number in the pool.
     pub fn delegate(&mut self) -> Result<u32, StepFault>
-        ensures lists { let g = granule self.old.launch.now.config.pool_base self.old.taken in
+        ensures lists { let g = granule self.old.config.pool_base self.old.taken in
             Lists self.old self.new result (Whole (Delegate g) ∷ []) }
         ensures value { IfOk result (λ n. n ≡ self.old.taken) }
     {
-        if self.taken >= self.launch.config().pool_count {
+        if self.taken >= self.config.pool_count {
             return Err(StepFault::Refused(StepReason::PoolEnd));
         }
         let granule = self.taken as u32;
@@ -67,7 +69,7 @@ impl<'a> Draft<'a> {
 
     /// Delegates this many granules, one after another.
     pub fn delegate_all(&mut self, count: u64) -> Result<(), StepFault>
-        ensures { let first = granule self.old.launch.now.config.pool_base self.old.taken in
+        ensures { let first = granule self.old.config.pool_base self.old.taken in
             Lists self.old self.new result (delegate_all (granules count first)) }
     {
         for _ in 0..count {
@@ -78,7 +80,7 @@ impl<'a> Draft<'a> {
 
     /// Lists a table of a level, in the next granule.
     fn table(&mut self, base: u64, level: u8) -> Result<(), StepFault>
-        ensures { let g = granule self.old.launch.now.config.pool_base self.old.taken in
+        ensures { let g = granule self.old.config.pool_base self.old.taken in
             Lists self.old self.new result
             (Whole (Delegate g) ∷ Whole (RttCreate g base level) ∷ []) }
     {
@@ -95,14 +97,14 @@ impl<'a> Draft<'a> {
     fn pages(&mut self, base: u64, count: u64, item: ItemPages, first: u64) -> Result<(), StepFault>
         requires few { first + count ≤ 2 ^ 32 }
         requires low { base + PAGE_SIZE * count ≤ 2 ^ 47 }
-        ensures { let pool = self.old.launch.now.config.pool_base in
+        ensures { let pool = self.old.config.pool_base in
             Lists self.old self.new result (entries_of_pages pool self.old.taken item.known
             item.number first (granules count base)) }
     {
         if count == 0 {
             return Ok(());
         }
-        let most = self.launch.config().pool_count;
+        let most = self.config.pool_count;
         if self.taken > most {
             return Err(StepFault::Refused(StepReason::PoolEnd));
         }
@@ -125,7 +127,7 @@ impl<'a> Draft<'a> {
     /// number of the item's next page.
     fn act(&mut self, act: &Act, item: Option<ItemPages>, page: u64) -> Result<u64, StepFault>
         requires { HasRoom (item_of item) page act.now }
-        ensures lists { let pool = self.old.launch.now.config.pool_base in
+        ensures lists { let pool = self.old.config.pool_base in
             Lists self.old self.new result
             (entries_of_act pool self.old.taken (item_of item) page act.now) }
         ensures next { IfOk result (λ next. next ≡ page + pages_in (item_of item) act.now) }
@@ -150,7 +152,7 @@ impl<'a> Draft<'a> {
     /// Lists the acts of a plan, one after another; where they create pages, those of the item from its first on.
     pub fn acts(&mut self, acts: &[Act], item: Option<ItemPages>) -> Result<(), StepFault>
         requires { HaveRoom (item_of item) 0 acts.now }
-        ensures { let pool = self.old.launch.now.config.pool_base in
+        ensures { let pool = self.old.config.pool_base in
             Lists self.old self.new result
             (act_entries pool self.old.taken (item_of item) 0 acts.now) }
     {

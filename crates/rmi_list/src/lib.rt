@@ -4,6 +4,7 @@
 mod draft;
 mod fault;
 mod laws;
+mod listing;
 mod plan;
 mod reason;
 mod span;
@@ -12,5 +13,6 @@ mod step_fault;
 
 pub use fault::ListFault;
 pub use laws::{contents_of_a_launch, list_is_followed};
-pub use plan::{Plan, list, list_with_reason};
+pub use listing::{granules_taken, list, list_with_reason};
+pub use plan::Plan;
 pub use reason::{ListReason, StepReason};

@@ -62,80 +62,10 @@ impl Model for Plan {
     ghost invariant = { IsWellFormed };
 }
 
-/// The list of a launch that has its place, or why it has none. The first reason that holds is answered, but want of memory
-/// may come before it.
-pub fn list(alloc: Global, launch: &Launch, placed: &Placed) -> Result<Plan, ListFault>
-    requires { HasPlace launch.now placed.now }
-    ensures { Answers ListFault.NoMemory (λ plan. plan) result (listed launch.now placed.now) }
-{
-    match list_with_reason(alloc, launch, placed)? {
-        Ok(plan) => Ok(plan),
-        Err(reason) => Err(reason.fault()),
-    }
-}
-
-/// The same, with the whole reason: which part of the list is refused, and the numbers that its check looked at.
-pub fn list_with_reason(
-    alloc: Global,
-    launch: &Launch,
-    placed: &Placed,
-) -> Result<Result<Plan, ListReason>, NoMemory>
-    requires { HasPlace launch.now placed.now }
-    ensures list { IfOk result (λ found. IfOk found (λ plan.
-        listed launch.now placed.now ≡ Ok plan)) }
-    ensures reason { IfOk result (λ found. IfErr found (IsReason launch.now placed.now)) }
-{
-    let count = placed.recs().len();
-    if count > REC_LIMIT {
-        return Ok(Err(ListReason::TooManyRecs { count }));
-    }
-    let mut draft = match open(alloc, launch, placed) {
-        Ok(draft) => draft,
-        Err(StepFault::NoMemory) => return Err(NoMemory),
-        Err(StepFault::Refused(_)) => return Ok(Err(ListReason::Opening)),
-    };
-    for (number, step) in launch.steps().iter().enumerate() {
-        if let Err(fault) = draft.step(step) {
-            return Ok(Err(ListReason::Step {
-                number,
-                step: *step,
-                reason: fault.reason()?,
-            }));
-        }
-    }
-    draft.push(Span::Activate)?;
-    Ok(Ok(Plan::of(alloc, draft)?))
-}
-
-/// The list's begin: the granules of the start tables and of the realm descriptor, and the realm.
-fn open<'a>(alloc: Global, launch: &'a Launch, placed: &'a Placed) -> Result<Draft<'a>, StepFault>
-    ensures launch { IfOk result (λ d. d.launch.now ≡ launch.now) }
-    ensures placed { IfOk result (λ d. d.placed.now ≡ placed.now) }
-    ensures entries { IfOk result (λ d. entries_in d ≡ opening_entries launch.now.config) }
-    ensures progress { IfOk result (λ d. progress_of d ≡ opening_progress launch.now.config) }
-    ensures pool { IfOk result InPool }
-    ensures spans { IfOk result AreSpans }
-    ensures fault { IfErr result (λ e. (e ≡ StepFault.NoMemory)
-        ⊎ (launch.now.config.pool_count < delegated (opening_entries launch.now.config))) }
-{
-    let config = launch.config();
-    let mut draft = Draft {
-        launch,
-        placed,
-        tables: Tables::new(alloc, config.s2sz, config.block_level),
-        spans: Vec::new(alloc),
-        taken: 0,
-        num_recs: 0,
-    };
-    draft.delegate_all(start_count(config.s2sz))?;
-    let rd = draft.delegate()?;
-    draft.push(Span::RealmCreate { rd })?;
-    Ok(draft)
-}
-
 impl Plan {
     /// The plan of a list that was made.
-    fn of<'a>(alloc: Global, draft: Draft<'a>) -> Result<Plan, NoMemory>
+    pub(crate) fn of<'a>(alloc: Global, draft: Draft<'a>) -> Result<Plan, NoMemory>
+        requires config { draft.config ≡ draft.launch.now.config }
         requires recs { length draft.placed.now.recs ≤ REC_LIMIT }
         requires few { delegated (entries_in draft) ≤ 2 ^ 32 }
         requires spans { All IsSpan draft.spans.items }
@@ -144,7 +74,7 @@ impl Plan {
         let starts = number(alloc, &draft.spans)?;
         Ok(Plan {
             params: realm_params(draft.launch),
-            num_aux: draft.launch.config().num_aux,
+            num_aux: draft.config.num_aux,
             recs: Vec::from_slice(alloc, draft.placed.recs())?,
             spans: draft.spans,
             starts,

@@ -3,7 +3,7 @@ ghost use Rattle.std.specs.Prelude.{◌≡◌, ◌<◌, ◌≤◌, length, None,
 ghost use Rattle.rmi_list.specs.Listed.{lacks_rule, list_item, list_rec, list_region, list_step};
 ghost use Rattle.rmi_list.specs.Measured.{page_content};
 ghost use Rattle.rmi_list.specs.Reason.{item_range, region_range, step_extent};
-ghost use Rattle.rmi_list.specs.inside.Drafts.{AreListable, Continues, InPool, progress_of};
+ghost use Rattle.rmi_list.specs.inside.Drafts.{AreListable, Continues, InPool, launch_of, progress_of};
 ghost use Rattle.rim_desc.specs.declared.rec.TheConstants.{REC_LIMIT};
 ghost use Rattle.ipa_layout.specs.declared.item_check.TheConstants.{PAGE_LIMIT};
 
@@ -13,7 +13,8 @@ use crate::span::Span;
 use crate::step_fault::StepFault;
 use ipa_layout::{PlacedItem, PlacedRec};
 use list_model::PageContent;
-use rim_launch::{Launch, Region, Step};
+use rim_desc::RecRule;
+use rim_launch::{Region, Step};
 
 /// What the monitor knows of the content of an item's pages.
 fn page_content(item: &PlacedItem) -> PageContent
@@ -31,11 +32,11 @@ fn page_content(item: &PlacedItem) -> PageContent
     }
 }
 
-/// Whether a REC is not runnable, and the launch has no rule for such.
-fn lacks_rule(launch: &Launch, rec: &PlacedRec) -> bool
-    ensures { result ≡ lacks_rule launch.now.config.rec_rule rec.now }
+/// Whether a REC is not runnable, and there is no rule for such.
+fn lacks_rule(rule: Option<RecRule>, rec: &PlacedRec) -> bool
+    ensures { result ≡ lacks_rule rule rec.now }
 {
-    !rec.runnable && launch.config().rec_rule.is_none()
+    !rec.runnable && rule.is_none()
 }
 
 impl<'a> Draft<'a> {
@@ -43,7 +44,7 @@ impl<'a> Draft<'a> {
     fn region(&mut self, region: &Region) -> Result<(), StepFault>
         requires { InPool self.old }
         ensures { Continues self.old self.new (Some (region_range region.now)) result
-            (list_region self.old.launch.now.config (progress_of self.old) region.now) }
+            (list_region self.old.config (progress_of self.old) region.now) }
     {
         let acts = match self.tables.ripas_runs(region.base, region.end) {
             Ok(acts) => acts,
@@ -59,7 +60,7 @@ impl<'a> Draft<'a> {
         requires few { item.now.pages ≤ PAGE_LIMIT }
         requires lead { item.now.lead ≤ item.now.address }
         ensures { Continues self.old self.new (Some (item_range item.now)) result
-            (list_item self.old.launch.now.config (progress_of self.old) number item.now) }
+            (list_item self.old.config (progress_of self.old) number item.now) }
     {
         if item.pages == 0 {
             return Ok(());
@@ -82,18 +83,18 @@ impl<'a> Draft<'a> {
         requires number { number < REC_LIMIT }
         requires own { slice_get self.old.placed.now.recs number ≡ Some rec.now }
         ensures { Continues self.old self.new None result
-            (list_rec self.old.launch.now.config (progress_of self.old) number rec.now) }
+            (list_rec self.old.config (progress_of self.old) number rec.now) }
     {
         if number != self.num_recs {
             return Err(StepFault::Refused(StepReason::RecOrder {
                 listed: self.num_recs,
             }));
         }
-        if lacks_rule(self.launch, rec) {
+        if lacks_rule(self.config.rec_rule, rec) {
             return Err(StepFault::Refused(StepReason::RecNotRunnable));
         }
         let granule = self.delegate()?;
-        self.delegate_all(self.launch.config().num_aux as u64)?;
+        self.delegate_all(self.config.num_aux as u64)?;
         self.push(Span::RecCreate {
             rec: granule,
             number: number as u16,
@@ -108,8 +109,8 @@ impl<'a> Draft<'a> {
         requires items { AreListable self.old.placed.now.items }
         requires recs { length self.old.placed.now.recs ≤ REC_LIMIT }
         ensures { Continues self.old self.new
-            (step_extent self.old.launch.now self.old.placed.now step.now) result
-            (list_step self.old.launch.now self.old.placed.now (progress_of self.old) step.now) }
+            (step_extent (launch_of self.old) self.old.placed.now step.now) result
+            (list_step (launch_of self.old) self.old.placed.now (progress_of self.old) step.now) }
     {
         let (launch, placed) = (self.launch, self.placed);
         match step {

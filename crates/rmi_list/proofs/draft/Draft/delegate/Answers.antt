@@ -4,6 +4,5 @@ use Rattle.rmi_list.proofs.draft.Draft.delegate.Goals as goal
 
 pub overflow_cast-granule : goal.overflow_cast-granule
 overflow_cast-granule c =
-    let count = c.config.result.pool_fits.1 in
-    let same = c.config.ensures.value in
+    let count = c.args.self.now.config.pool_fits.1 in
     grind (arith, common_steps)

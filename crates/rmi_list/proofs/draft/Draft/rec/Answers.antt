@@ -29,7 +29,7 @@ returns-in_err-delegate_all c =
     let r = c.args.rec.now in
     let e = c.in_err-delegate_all.field-0.0 in
     let grows = c.in_ok-granule.ensures.lists in
-    let refused : Refuses one e (aux_granules old) = rw (← aux-same old one c.config.result grows c.config.ensures.value) c.in_err-delegate_all.ensures in
+    let refused : Refuses one e (aux_granules old) = rw (← aux-same old one grows) c.in_err-delegate_all.ensures in
     rw (p.1, p.2) (rec-refused old c.args.number r e c.if-number-self.false (sym c.lacks_rule.ensures ∙ c.if-lacks_rule.false)
     (refused-later old one e (own_granule old) (aux_granules old ++ rec_itself old c.args.number r) grows (refused-first one e (aux_granules old) (rec_itself old c.args.number r) refused)))
 
@@ -42,9 +42,9 @@ returns c =
     let r = c.args.rec.now in
     let number = c.args.number in
     let first = c.in_ok-granule.ensures.lists in
-    let second : Grows one two (aux_granules old) = rw (← aux-same old one c.config.result first c.config.ensures.value) c.in_ok-delegate_all.ensures in
+    let second : Grows one two (aux_granules old) = rw (← aux-same old one first) c.in_ok-delegate_all.ensures in
     let both = grows-then old one two (own_granule old) (aux_granules old) first second in
     let third : Grows two three (rec_itself old number r) =
-    rw (← rec-same old two c.in_ok-granule.granule number r both.launch both.placed c.in_ok-granule.ensures.value c.requires.own) c.in_ok-push.ensures in
+    rw (← rec-same old two c.in_ok-granule.granule number r both.config both.placed c.in_ok-granule.ensures.value c.requires.own) c.in_ok-push.ensures in
     rec-makes old three number r c.requires.pool c.if-number-self.false (sym c.lacks_rule.ensures ∙ c.if-lacks_rule.false)
     (grows-then old one three (own_granule old) (aux_granules old ++ rec_itself old number r) first (grows-then one two three (aux_granules old) (rec_itself old number r) second third))
