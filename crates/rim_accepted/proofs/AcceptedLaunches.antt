@@ -4,6 +4,7 @@ use Rattle.std.specs.Prelude.{Result, Ok, Err, is_err}
 use Rattle.std.specs.Result.{result_map_both}
 use Rattle.refusal.specs.Answer.{◌>>=◌}
 use Rattle.list_model.specs.Entries.{Entry, commands_of}
+use Rattle.rim_desc.specs.declared.command.Command.{Command}
 use Rattle.rim_launch.specs.LaunchData.{LaunchData}
 use Rattle.ipa_layout.specs.Layout.{PlacedData, places}
 use Rattle.ipa_layout.specs.declared.fault.LayoutFault.{LayoutFault}
@@ -71,3 +72,18 @@ refused-so l files fault alike refused = by_place (accepted_of l files) refl
         let both : Err other ≡ Err fault = sym (refused-rim l files other is) ∙ refused in
         let same : other ≡ fault = cc in
         is ∙ ap (λ (f : AuditFault). Err f) same
+
+-- the commands of a launch that is accepted, with this list
+pub commands-are : (l : LaunchData) (files : List (List ℕ)) (p : PlacedData) (entries : List Entry) → accepted_of l files ≡ Ok p → listed l p ≡ Ok entries
+    → commands_for l files ≡ Ok (commands_of (page_contents l files p) entries)
+unfolding commands_for
+commands-are l files p entries accepted listed = rw ((accepted-is l files p accepted).placed, listed) refl
+
+-- a launch without a measurement has no commands
+pub commands-refused : (l : LaunchData) (files : List (List ℕ)) (fault : AuditFault) → rim_for l files ≡ Err fault → commands_for l files ≡ Err fault
+unfolding rim_for
+commands-refused l files fault refused = by_commands (commands_for l files) refused
+  where
+    by_commands : (found : Result (List Command) AuditFault) → (found >>= λ commands. Ok (rim_after l commands)) ≡ Err fault → found ≡ Err fault
+    by_commands (Ok commands) is = absurd (cc)
+    by_commands (Err e) is = ap (λ (f : AuditFault). Err f) (cc)

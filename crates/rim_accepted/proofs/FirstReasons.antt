@@ -1,6 +1,6 @@
 -- The reason that is found is that of the first refusal, and no want of memory.
 use Rattle.std.proofs.Common.{◌≡◌, ℕ, List, ap, refl}
-use Rattle.std.specs.Prelude.{Ok, Err}
+use Rattle.std.specs.Prelude.{Option, Ok, Err}
 use Rattle.std.specs.Result.{result_map_both}
 use Rattle.list_model.specs.Entries.{Entry}
 use Rattle.rim_launch.specs.LaunchData.{LaunchData}
@@ -17,10 +17,13 @@ use Rattle.rmi_list.specs.declared.reason.ListReason.TheVariants as list
 use Rattle.rmi_list.specs.declared.reason.StepReason.{StepReason}
 use Rattle.rmi_list.specs.declared.reason.StepReason.TheVariants as step
 use Rattle.rim_accepted.specs.Accepted.{accepted_of, commands_for, layout_fault, list_fault, rim_for}
-use Rattle.rim_accepted.specs.Reasons.{IsRefusedFor}
+use Rattle.rim_accepted.specs.Reasons.{HasCount, IsRefusedFor, audit_fault_of}
 use Rattle.rim_accepted.specs.declared.audit_fault.AuditFault.{AuditFault}
 use Rattle.rim_accepted.specs.declared.audit_fault.AuditFault.TheVariants as fault
+use Rattle.rim_accepted.specs.declared.reason.LaunchReason.{LaunchReason}
 use Rattle.rim_accepted.specs.declared.reason.LaunchReason.TheVariants as launch
+use Rattle.rim_accepted.proofs.AcceptedLaunches.{refused-so}
+use Rattle.rim_accepted.proofs.RefusedLaunches.{same_refusal}
 
 -- ---- a reason is no want of memory
 
@@ -57,12 +60,12 @@ pub found-layout : (l : LaunchData) (files : List (List ℕ)) (why : LayoutReaso
 unfolding rim_for commands_for
 found-layout l files why is = record { refused = rw is (ap (λ (f : AuditFault). Err f) (layout-own why)); reason = is }
 
-pub found-list : (l : LaunchData) (files : List (List ℕ)) (p : PlacedData) (why : ListReason) → laid_out l files ≡ Ok p → IsReason l p why
-    → IsRefusedFor l files (launch.List p why)
+pub found-list : (l : LaunchData) (files : List (List ℕ)) (p : PlacedData) (why : ListReason) (count : Option ℕ) → laid_out l files ≡ Ok p
+    → IsReason l p why → HasCount l p (list_fault_of why) count → IsRefusedFor l files (launch.List p why count)
 unfolding rim_for commands_for
-found-list l files p why placed is = record {
+found-list l files p why count placed is counted = record {
   refused = rw placed (rw is.refused (ap (λ (f : AuditFault). Err f) (list-own why)));
-  reason = (ap (result_map_both (λ (q : PlacedData). q) fault_of) placed, is);
+  reason = (ap (result_map_both (λ (q : PlacedData). q) fault_of) placed, is, counted);
 }
 
 -- ---- no refusal
@@ -71,3 +74,7 @@ pub found-accepted : (l : LaunchData) (files : List (List ℕ)) (p : PlacedData)
     → accepted_of l files ≡ Ok p
 unfolding accepted_of
 found-accepted l files p entries placed listed = rw (placed, listed) refl
+
+-- so a launch that is refused for a reason is not accepted
+pub refused-accepted : (l : LaunchData) (files : List (List ℕ)) (why : LaunchReason) → IsRefusedFor l files why → accepted_of l files ≡ Err (audit_fault_of why)
+refused-accepted l files why is = refused-so l files (audit_fault_of why) (same_refusal l files) is.refused

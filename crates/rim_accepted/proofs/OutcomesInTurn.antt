@@ -1,10 +1,10 @@
 -- What the launches of a release come to, one after another.
-use Rattle.std.proofs.Common.{◌≡◌, ◌≢◌, ℕ, ◌+◌, ◌<◌, ◌⊎◌, inl, inr, ◌∙◌, ◌||◌, arith, get_or, suc, take, List, [], ◌∷◌, ◌++◌, length, map, Vec, Global, refl}
+use Rattle.std.proofs.Common.{◌≡◌, ℕ, ◌+◌, ◌<◌, ◌∙◌, ◌||◌, arith, get_or, suc, take, List, [], ◌∷◌, ◌++◌, length, map, Vec, Global, refl}
 use Rattle.std.proofs.Common.{ap, ap₂, sym, subst}
 use Rattle.std.proofs.Math.Seq.{take-suc}
 use Rattle.std.specs.Prelude.{Result, Ok, Err, IfOk, IsOk, is_err}
 use Rattle.std.specs.List.{list_any}
-use Rattle.refusal.specs.Answer.{Answers}
+use Rattle.std.specs.Result.{result_map_both}
 use Rattle.list_model.specs.Entries.{Entry}
 use Rattle.ipa_layout.specs.Files.{bytes_of_files}
 use Rattle.ipa_layout.specs.Layout.{PlacedData}
@@ -16,7 +16,9 @@ use Rattle.rim_accepted.specs.Lines.{has_refused}
 use Rattle.rim_accepted.specs.Outcomes.{AreOutcomes, IsOutcome, place_of}
 use Rattle.rim_accepted.specs.declared.accepted.AcceptedLaunch.{AcceptedLaunch}
 use Rattle.rim_accepted.specs.declared.audit_fault.AuditFault.{AuditFault}
-use Rattle.rim_accepted.specs.declared.audit_fault.AuditFault.TheVariants.{NoMemory}
+use Rattle.rim_accepted.specs.declared.reason.LaunchReason.{LaunchReason}
+use Rattle.rim_accepted.specs.Reasons.{IsReasoned, audit_fault_of}
+use Rattle.rim_accepted.proofs.FirstReasons.{refused-accepted}
 
 -- one launch more
 outcomes-append : (files : List (List ℕ)) (ls : List NamedData) (l : NamedData) (rs : List (Result AcceptedLaunch AuditFault))
@@ -37,20 +39,15 @@ outcomes-next files ls i d rs rs' r inside is added are =
     subst (λ (xs : List NamedData). AreOutcomes files xs rs') (sym taken)
     (subst (AreOutcomes files (take i ls ++ get_or ls i d ∷ [])) (sym added) (outcomes-append files (take i ls) (get_or ls i d) rs r is are))
 
--- what a launch was found to come to, unless it is want of memory
-pub outcome-is : (files : List (Vec ℕ Global)) (l launch : NamedData) (found outcome : Result AcceptedLaunch AuditFault)
-    → launch ≡ l → Answers NoMemory (λ a. a.placed) found (accepted_of launch.launch (bytes_of_files files))
-    → IfOk found (λ a. (a.named.now ≡ launch) × (a.files.now ≡ files)) → outcome ≡ found → outcome ≢ Err NoMemory
-    → IsOutcome (bytes_of_files files) l outcome
-outcome-is files l launch (Ok a) outcome same answers own is not_memory =
-    subst (IsOutcome (bytes_of_files files) l) (sym is) (own.0 ∙ same, ap bytes_of_files own.1)
-outcome-is files l launch (Err fault) outcome same answers own is not_memory = at answers
-  where
-    at : (fault ≡ NoMemory) ⊎ (accepted_of launch.launch (bytes_of_files files) ≡ Err fault) → IsOutcome (bytes_of_files files) l outcome
-    at (inl memory) = absurd (not_memory (is ∙ ap (λ (f : AuditFault). Err f) memory))
-    at (inr refused) =
-        subst (IsOutcome (bytes_of_files files) l) (sym is)
-        (subst (λ (x : NamedData). accepted_of x.launch (bytes_of_files files) ≡ Err fault) same refused)
+-- what a launch was found to come to
+pub outcome-is : (files : List (Vec ℕ Global)) (l launch : NamedData) (found : Result AcceptedLaunch LaunchReason) (outcome : Result AcceptedLaunch AuditFault)
+    → launch ≡ l → IsReasoned launch.launch (bytes_of_files files) found → IfOk found (λ a. (a.named.now ≡ launch) × (a.files.now ≡ files))
+    → outcome ≡ result_map_both (λ a. a) audit_fault_of found → IsOutcome (bytes_of_files files) l outcome
+outcome-is files l launch (Ok a) outcome same reasoned own is = subst (IsOutcome (bytes_of_files files) l) (sym is) (own.0 ∙ same, ap bytes_of_files own.1)
+outcome-is files l launch (Err why) outcome same refused own is =
+    subst (IsOutcome (bytes_of_files files) l) (sym is)
+    (subst (λ (x : NamedData). accepted_of x.launch (bytes_of_files files) ≡ Err (audit_fault_of why)) same
+    (refused-accepted launch.launch (bytes_of_files files) why refused))
 
 -- a launch that is accepted has the place that its definition gives it
 pub accepted-place : (a : AcceptedLaunch) → accepted_of a.named.now.launch (bytes_of_files a.files.now) ≡ Ok a.placed

@@ -1,33 +1,48 @@
 //! A launch that is accepted.
-ghost use Rattle.std.specs.Prelude.{◌≡◌, IfOk, IsOk};
+mod accepting;
+
+ghost use Rattle.std.specs.Prelude.{◌≡◌, IsOk, Ok};
 ghost use Rattle.std.specs.List.{slice_get};
-ghost use Rattle.refusal.specs.Answer.{Answers};
 ghost use Rattle.ipa_layout.specs.Files.{bytes_of_files};
 ghost use Rattle.ipa_layout.specs.Layout.{IsPlaced};
 ghost use Rattle.rmi_list.specs.Listed.{listed};
-ghost use Rattle.rim_accepted.specs.Accepted.{accepted_of};
 
-use crate::audit_fault::AuditFault;
-use crate::loaded::LoadedLaunch;
-use crate::reason::accept_with_reason;
+pub use accepting::{accept, accept_with_list};
 use ipa_layout::{Placed, PlacedItem};
 use rim_launch::Launch;
 use rim_manifest::NamedLaunch;
-use std::alloc::Global;
+use rmi_list::Plan;
 
 /// A launch that is accepted, with its names, the files of its release and the place of its items. By its type neither its layout
-/// nor its list of commands is refused.
+/// nor its list of commands is refused; only `accept` and `accept_with_list` make one.
 #[derive(Drop)]
 pub struct AcceptedLaunch<'a> {
-    pub named: &'a NamedLaunch,
-    pub files: &'a [Vec<u8>],
-    pub placed: Placed,
+    named: &'a NamedLaunch,
+    files: &'a [Vec<u8>],
+    placed: Placed,
     pub ghost is_placed: { IsPlaced named.now.launch (bytes_of_files files.now) placed },
     pub ghost is_listed: { IsOk (listed named.now.launch placed) },
 }
 
+/// A launch that is accepted, with its list of commands.
+#[derive(Drop)]
+pub struct ListedLaunch<'a> {
+    pub accepted: AcceptedLaunch<'a>,
+    pub plan: Plan,
+    pub ghost is_plan: { listed accepted.named.now.launch accepted.placed ≡ Ok plan },
+}
+
 impl<'a> AcceptedLaunch<'a> {
-    ghost use Rattle.std.specs.Prelude.{◌≡◌};
+    ghost use Rattle.std.specs.Prelude.{◌≡◌, option_map};
+    ghost use Rattle.ipa_layout.specs.Files.{bytes_of_files};
+    ghost use Rattle.ipa_layout.specs.Layout.{bytes_of_source};
+
+    /// The launch with its names.
+    pub fn named(&self) -> &'a NamedLaunch
+        ensures { result.now ≡ self.entry.now.named.now }
+    {
+        self.named
+    }
 
     /// The launch itself.
     pub fn launch(&self) -> &'a Launch
@@ -35,18 +50,31 @@ impl<'a> AcceptedLaunch<'a> {
     {
         self.named.launch()
     }
-}
 
-/// A launch that is accepted, or the first refusal of its layout, else of its list. No list is kept.
-pub fn accept<'a>(alloc: Global, loaded: LoadedLaunch<'a>) -> Result<AcceptedLaunch<'a>, AuditFault>
-    ensures place { Answers AuditFault.NoMemory (λ a. a.placed) result
-        (accepted_of loaded.entry.launch.now.launch (bytes_of_files loaded.entry.files.now)) }
-    ensures own { IfOk result (λ a. (a.named.now ≡ loaded.entry.launch.now)
-        × (a.files.now ≡ loaded.entry.files.now)) }
-{
-    match accept_with_reason(alloc, loaded)? {
-        Ok(accepted) => Ok(accepted),
-        Err(reason) => Err(reason.fault()),
+    /// The bytes of its release's files.
+    pub fn files(&self) -> &'a [Vec<u8>]
+        ensures { result.now ≡ self.entry.now.files.now }
+    {
+        self.files
+    }
+
+    /// The place of its items.
+    pub fn placed(&self) -> &Placed
+        ensures { result.now ≡ self.now.placed }
+    {
+        &self.placed
+    }
+
+    /// The bytes of an item: those of its file, or of the devicetree that the launch changed; `None` where its content is not
+    /// known.
+    pub fn bytes_of(&self, item: &PlacedItem) -> Option<&[u8]>
+        ensures { option_map (λ bytes. bytes.now) result ≡ option_map
+            (bytes_of_source (bytes_of_files self.now.files.now) self.now.placed) item.now.source }
+    {
+        match item.source {
+            Some(source) => Some(self.placed.bytes(self.files, source)),
+            None => None,
+        }
     }
 }
 

@@ -1,6 +1,5 @@
 //! Why a launch is refused.
 ghost use Rattle.std.specs.Prelude.{◌≡◌};
-ghost use Rattle.rim_accepted.specs.Accepted.{layout_fault, list_fault};
 ghost use Rattle.rim_accepted.specs.AuditFaults.{audit_kind_of, layout_kind_of, list_kind_of, plan_kind_of};
 ghost use Rattle.rim_accepted.specs.declared.audit_fault.AuditFault.TheVariants as fault;
 
@@ -22,28 +21,6 @@ pub enum AuditFault {
     List(ListFault),
     /// The allocator refused a growth.
     NoMemory,
-}
-
-impl From<LayoutFault> for AuditFault {
-    ghost from_gives = { λ e f. f ≡ layout_fault e };
-
-    fn from(fault: LayoutFault) -> AuditFault {
-        match fault {
-            LayoutFault::NoMemory => AuditFault::NoMemory,
-            _ => AuditFault::Layout(fault),
-        }
-    }
-}
-
-impl From<ListFault> for AuditFault {
-    ghost from_gives = { λ e f. f ≡ list_fault e };
-
-    fn from(fault: ListFault) -> AuditFault {
-        match fault {
-            ListFault::NoMemory => AuditFault::NoMemory,
-            _ => AuditFault::List(fault),
-        }
-    }
 }
 
 impl From<NoMemory> for AuditFault {

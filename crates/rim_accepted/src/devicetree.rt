@@ -23,7 +23,10 @@ pub fn placed_devicetree(
     ensures { Answers AuditFault.NoMemory (option_map (λ bytes. bytes.items)) result
         (devicetree_of loaded.entry.launch.now.launch (bytes_of_files loaded.entry.files.now)) }
 {
-    let accepted = accept(alloc, loaded)?;
+    let accepted = match accept(alloc, loaded)? {
+        Ok(accepted) => accepted,
+        Err(reason) => return Err(reason.fault()),
+    };
     match devicetree_bytes(&accepted) {
         Some(bytes) => Ok(Some(copied(alloc, bytes)?)),
         None => Ok(None),
@@ -37,8 +40,8 @@ fn devicetree_bytes<'a>(accepted: &'a AcceptedLaunch<'_>) -> Option<&'a [u8]>
         accepted.entry.now.placed }
 {
     let number = number_of(accepted.launch())?;
-    let source = accepted.placed.items().get(number)?.source?;
-    Some(accepted.placed.bytes(accepted.files, source))
+    let item = accepted.placed().items().get(number)?;
+    accepted.bytes_of(item)
 }
 
 /// Which item of a launch is its devicetree, if it has one.

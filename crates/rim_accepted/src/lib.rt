@@ -11,12 +11,12 @@ mod reason;
 mod release;
 mod text;
 
-pub use accepted::{AcceptedLaunch, accept, item_at};
+pub use accepted::{AcceptedLaunch, ListedLaunch, accept, accept_with_list, item_at};
 pub use audit_fault::AuditFault;
 pub use devicetree::placed_devicetree;
 pub use laws::{a_line_says_what_a_monitor_holds, devicetrees_are_measured};
 pub use lines::{push_digest, push_line, push_lines, push_rim};
 pub use loaded::{Files, LoadedLaunch, LoadedRelease};
-pub use reason::{LaunchReason, accept_with_reason};
+pub use reason::LaunchReason;
 pub use release::{AcceptedRelease, accept_all};
 pub use text::{Report, has_refused, refused_report};

@@ -1,10 +1,13 @@
 //! The launches of a release, laid out before any page is hashed.
-ghost use Rattle.std.specs.Prelude.{◌≡◌, ◌≢◌, Err, IfOk, length};
+ghost use Rattle.std.specs.Prelude.{◌≡◌, IfOk, length};
+ghost use Rattle.std.specs.Result.{result_map_both};
+ghost use Rattle.rim_accepted.specs.Reasons.{audit_fault_of};
 ghost use Rattle.ipa_layout.specs.Files.{bytes_of_files};
 
 use crate::accepted::{AcceptedLaunch, accept};
 use crate::audit_fault::AuditFault;
 use crate::loaded::{LoadedLaunch, LoadedRelease};
+use crate::reason::LaunchReason;
 use refusal::NoMemory;
 use rim_manifest::{NamedLaunch, Release};
 use std::alloc::Global;
@@ -76,8 +79,8 @@ pub fn accept_all<'a>(
     let LoadedRelease { release, files } = loaded;
     let mut launches = Vec::with_capacity(alloc, release.launches())?;
     for launch in release.all_launches() {
-        let outcome = own_outcome(accept(alloc, LoadedLaunch { launch, files }))?;
-        launches.push(outcome)?;
+        let found = accept(alloc, LoadedLaunch { launch, files })?;
+        launches.push(outcome_of(found))?;
     }
     Ok(AcceptedRelease {
         release,
@@ -86,15 +89,14 @@ pub fn accept_all<'a>(
     })
 }
 
-/// What a launch comes to; or want of memory, which is no refusal of the launch.
-fn own_outcome<'a>(
-    found: Result<AcceptedLaunch<'a>, AuditFault>,
-) -> Result<Result<AcceptedLaunch<'a>, AuditFault>, NoMemory>
-    ensures same { IfOk result (λ outcome. outcome ≡ found.entry) }
-    ensures own { IfOk result (λ outcome. outcome ≢ Err AuditFault.NoMemory) }
+/// What a launch comes to: it is accepted, or it has a fault.
+fn outcome_of<'a>(
+    found: Result<AcceptedLaunch<'a>, LaunchReason>,
+) -> Result<AcceptedLaunch<'a>, AuditFault>
+    ensures { result ≡ result_map_both (λ a. a) audit_fault_of found.entry }
 {
     match found {
-        Ok(accepted) => Ok(Ok(accepted)),
-        Err(fault) => Ok(Err(fault.own_fault()?)),
+        Ok(accepted) => Ok(accepted),
+        Err(reason) => Err(reason.fault()),
     }
 }

@@ -168,7 +168,7 @@ impl<'a> LaunchCommands<'a> {
         ensures { IfSome result (λ key. (page : ℕ) → (content_in self.now item page).bytes
             ≡ page_digest (bytes_of_files self.now.accepted.files.now) key page) }
     {
-        let item = self.accepted.placed.items().get(item)?;
+        let item = self.accepted.placed().items().get(item)?;
         match item.source {
             Some(Source::File(file)) => Some(FileKey {
                 algo: self.accepted.launch().config().algo,
@@ -212,7 +212,7 @@ impl<'a> LaunchCommands<'a> {
         requires { HasPage self.now.accepted.placed item page }
         ensures { (k : ℕ) → k ≤ result → HasPage self.now.accepted.placed item (page + k) }
     {
-        self.accepted.placed.items()[item].pages - page - 1
+        self.accepted.placed().items()[item].pages - page - 1
     }
 
     /// The page that is `k` after one in its item, or the last one, which is `after` after it.
@@ -228,11 +228,12 @@ impl<'a> LaunchCommands<'a> {
         requires { HasPage self.now.accepted.placed item page }
         ensures { DigestIsContent self.now item page (page_view result) }
     {
-        let item = self.accepted.placed.items()[item];
+        let placed = self.accepted.placed();
+        let item = placed.items()[item];
         let Some(source) = item.source else {
             unreachable!()
         };
-        let bytes = self.accepted.placed.bytes(self.accepted.files, source);
+        let bytes = placed.bytes(self.accepted.files(), source);
         let algo = self.accepted.launch().config().algo;
         Blob::new(source, item.lead, bytes).page(algo, page)
     }

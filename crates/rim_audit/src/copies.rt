@@ -124,7 +124,7 @@ fn shared_with(
     ) {
         return None;
     }
-    let marks = marked(&of_launch.items, commands.accepted.placed.items());
+    let marks = marked(&of_launch.items, commands.accepted.placed().items());
     Some(
         of_launch
             .plan

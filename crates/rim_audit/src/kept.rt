@@ -122,7 +122,7 @@ impl<'a> Kept<'a> {
         if !self.make_room(size_of(&commands.plan, &copies)) {
             return;
         }
-        let Ok(items) = Vec::from_slice(self.alloc, commands.accepted.placed.items()) else {
+        let Ok(items) = Vec::from_slice(self.alloc, commands.accepted.placed().items()) else {
             return;
         };
         let LaunchCommands { accepted, plan, .. } = commands;

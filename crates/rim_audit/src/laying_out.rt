@@ -6,15 +6,12 @@ ghost use Rattle.rim_accepted.specs.Accepted.{commands_for};
 ghost use Rattle.rim_audit.specs.inside.Commands.{commands_in};
 
 use crate::commands::LaunchCommands;
-use ipa_layout::place;
-use rim_accepted::{AcceptedLaunch, AuditFault, LoadedLaunch};
+use rim_accepted::{AuditFault, LoadedLaunch, accept_with_list};
 use rim_desc::Lanes;
-use rmi_list::list;
 use std::alloc::Global;
 
 /// The commands of a launch, which is placed and listed here; or why it is refused. Their pages are
 /// hashed in as many lanes.
-#[tactic(auto, unfolding(rim_accepted::specs::Accepted::commands_for))]
 pub fn lay_out<'a>(
     alloc: Global,
     loaded: LoadedLaunch<'a>,
@@ -25,21 +22,12 @@ pub fn lay_out<'a>(
     ensures own { IfOk result (λ c. (c.accepted.named.now ≡ loaded.entry.launch.now)
         × (c.accepted.files.now ≡ loaded.entry.files.now)) }
 {
-    let LoadedLaunch {
-        launch: named,
-        files,
-    } = loaded;
-    let launch = named.launch();
-    let placed = place(alloc, launch, files)?;
-    let plan = list(alloc, launch, &placed)?;
-    let accepted = AcceptedLaunch {
-        named,
-        files,
-        placed,
-    };
-    Ok(LaunchCommands {
-        accepted,
-        plan,
-        lanes,
-    })
+    match accept_with_list(alloc, loaded)? {
+        Ok(listed) => Ok(LaunchCommands {
+            accepted: listed.accepted,
+            plan: listed.plan,
+            lanes,
+        }),
+        Err(reason) => Err(reason.fault()),
+    }
 }

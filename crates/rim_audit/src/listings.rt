@@ -131,7 +131,7 @@ fn push_commands(
         ≡ rim_after commands.now.accepted.named.now.launch (commands_in commands.now)) }
 {
     let mut monitor = commands.monitor(alloc);
-    let mut beside = Beside::new(KnownPages::new(alloc, commands.accepted.files, 0));
+    let mut beside = Beside::new(KnownPages::new(alloc, commands.accepted.files(), 0));
     for index in 0..commands.len() {
         let command = commands.give(&mut monitor, &mut beside, index)?;
         push_command(alloc, text, &command)?;

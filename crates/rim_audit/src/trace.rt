@@ -62,7 +62,7 @@ fn trace(alloc: Global, commands: &LaunchCommands) -> Result<Vec<u8>, NoMemory>
     let algo = commands.accepted.launch().config().algo;
     let mut text = Vec::new(alloc);
     let mut monitor = commands.monitor(alloc);
-    let mut beside = Beside::new(KnownPages::new(alloc, commands.accepted.files, 0));
+    let mut beside = Beside::new(KnownPages::new(alloc, commands.accepted.files(), 0));
     for index in 0..commands.len() {
         let command = commands.give(&mut monitor, &mut beside, index)?;
         let rim = rim_held(&monitor, &command);

@@ -97,4 +97,4 @@ list_detail names c (list.Step number s reason) = step_text names s ++ step_deta
 
 abbrev pub reason_detail : (ℕ → List ℕ) → Config → LaunchReason → List ℕ
 reason_detail names c (launch.Layout reason) = layout_detail names reason
-reason_detail names c (launch.List placed reason) = list_detail names c reason
+reason_detail names c (launch.List placed reason granules) = list_detail names c reason

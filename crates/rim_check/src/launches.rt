@@ -12,7 +12,7 @@ use crate::detail::reason_detail;
 use crate::found::{Found, LaunchCheck};
 use crate::mending::mending_of;
 use refusal::NoMemory;
-use rim_accepted::{AcceptedLaunch, LaunchReason, LoadedLaunch, LoadedRelease, accept_with_reason};
+use rim_accepted::{AcceptedLaunch, LaunchReason, LoadedLaunch, LoadedRelease, accept};
 use rim_launch::Config;
 use rim_line::{Line, push_line};
 use rim_manifest::NamedLaunch;
@@ -45,7 +45,7 @@ fn look_at(alloc: Global, found: &mut Found, loaded: LoadedLaunch<'_>) -> Result
     ensures { OnOk result (AddsFound (bytes_of_files loaded.entry.files.now)
         loaded.entry.launch.now found.old found.new) }
 {
-    match accept_with_reason(alloc, loaded)? {
+    match accept(alloc, loaded)? {
         Ok(accepted) => add_accepted(alloc, found, &accepted),
         Err(reason) => {
             found.has_refused = true;
@@ -101,7 +101,7 @@ fn push_refusal(
         text.old.items text.new.items) }
 {
     let alloc = *text.allocator();
-    let mending = mending_of(alloc, launch.launch(), files, reason)?;
+    let mending = mending_of(launch.launch(), files, reason);
     let hint = format!(in alloc; "{mending}")?;
     push_refused(text, launch, reason, hint.as_str())
 }

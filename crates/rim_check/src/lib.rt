@@ -9,7 +9,6 @@ mod excerpt;
 mod expected;
 mod finding_detail;
 mod found;
-mod granules;
 mod hint;
 mod json;
 mod kernel_front;

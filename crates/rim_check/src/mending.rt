@@ -1,18 +1,15 @@
 //! What helps to mend a launch that is refused, beside the reason. That it is true of the launch is tested alone.
 
-use crate::granules::granules_needed;
 use crate::kernel_front::{KernelFront, front_of};
 use crate::part::Part;
 use fdt_tree::FdtFault;
-use ipa_layout::{Extent, IpaRange, ItemReason, LayoutReason, Placed};
-use refusal::NoMemory;
+use ipa_layout::{Extent, IpaRange, ItemReason, LayoutReason};
 use rim_accepted::LaunchReason;
 use rim_desc::GRANULE_SIZE;
 use rim_launch::{Launch, Region};
 use rmi_list::{ListReason, StepReason};
 use rmm_model::{LEAST_WIDTH, MOST_WIDTH, is_width, protected_end};
 use rtt_plan::PlanFault;
-use std::alloc::Global;
 use std::fmt;
 
 /// How many regions of RAM are shown.
@@ -125,14 +122,17 @@ fn write_ram<W: fmt::Write>(f: &mut fmt::Formatter<W>, regions: &[Region]) -> fm
 
 /// What helps to mend a launch that is refused for a reason.
 pub(crate) fn mending_of<'a>(
-    alloc: Global,
     launch: &'a Launch,
     files: &'a [Vec<u8>],
     reason: &LaunchReason,
-) -> Result<Mending<'a>, NoMemory> {
+) -> Mending<'a> {
     match reason {
-        LaunchReason::Layout(reason) => Ok(layout_mending(launch, files, reason)),
-        LaunchReason::List { placed, reason } => list_mending(alloc, launch, placed, reason),
+        LaunchReason::Layout(reason) => layout_mending(launch, files, reason),
+        LaunchReason::List {
+            granules: Some(count),
+            ..
+        } => Mending::Granules(*count),
+        LaunchReason::List { reason, .. } => list_mending(launch, reason),
     }
 }
 
@@ -149,17 +149,11 @@ fn layout_mending<'a>(
     }
 }
 
-/// What helps to mend a launch that has no list of commands.
-fn list_mending<'a>(
-    alloc: Global,
-    launch: &'a Launch,
-    placed: &Placed,
-    reason: &ListReason,
-) -> Result<Mending<'a>, NoMemory> {
+/// What helps to mend a launch that has no list of commands, where the granules that it takes are not known.
+fn list_mending<'a>(launch: &'a Launch, reason: &ListReason) -> Mending<'a> {
     match reason {
-        ListReason::Step { reason, .. } => step_mending(alloc, launch, placed, reason),
-        ListReason::Opening => pool_mending(alloc, launch, placed),
-        ListReason::TooManyRecs { .. } => Ok(Mending::Nothing),
+        ListReason::Step { reason, .. } => step_mending(launch, reason),
+        ListReason::Opening | ListReason::TooManyRecs { .. } => Mending::Nothing,
     }
 }
 
@@ -208,31 +202,25 @@ fn file_of<'a>(launch: &Launch, files: &'a [Vec<u8>], item: usize) -> &'a [u8] {
 }
 
 /// What helps to mend a step.
-fn step_mending<'a>(
-    alloc: Global,
-    launch: &'a Launch,
-    placed: &Placed,
-    reason: &StepReason,
-) -> Result<Mending<'a>, NoMemory> {
+fn step_mending<'a>(launch: &'a Launch, reason: &StepReason) -> Mending<'a> {
     match reason {
         StepReason::Plan {
             fault: PlanFault::OutsideProtected,
             ..
-        } => Ok(Mending::Width {
+        } => Mending::Width {
             given: launch.config().s2sz,
             least: least_width(launch.ram()),
-        }),
+        },
         StepReason::Plan {
             fault: PlanFault::NotRam,
             range,
-        } => Ok(ram_mending(launch.ram(), *range)),
+        } => ram_mending(launch.ram(), *range),
         StepReason::Plan {
             fault: PlanFault::Unaligned,
             ..
-        } => Ok(Mending::WholePages),
-        StepReason::RecOrder { listed } => Ok(Mending::NextRec(*listed)),
-        StepReason::PoolEnd => pool_mending(alloc, launch, placed),
-        _ => Ok(Mending::Nothing),
+        } => Mending::WholePages,
+        StepReason::RecOrder { listed } => Mending::NextRec(*listed),
+        _ => Mending::Nothing,
     }
 }
 
@@ -254,16 +242,4 @@ fn least_width(regions: &[Region]) -> Option<u8> {
         top = region.end.max(top);
     }
     (LEAST_WIDTH..=MOST_WIDTH).find(|width| is_width(*width) && top <= protected_end(*width))
-}
-
-/// How many granules a launch takes whose pool has too few.
-fn pool_mending<'a>(
-    alloc: Global,
-    launch: &Launch,
-    placed: &Placed,
-) -> Result<Mending<'a>, NoMemory> {
-    match granules_needed(alloc, launch, placed)? {
-        Some(count) => Ok(Mending::Granules(count)),
-        None => Ok(Mending::Nothing),
-    }
 }

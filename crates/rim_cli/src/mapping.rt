@@ -12,7 +12,7 @@ use crate::fault::Fault;
 use crate::file::Opener;
 use crate::found::read_launch;
 use refusal::NoMemory;
-use rim_accepted::{AcceptedLaunch, LaunchReason, LoadedLaunch, accept_with_reason};
+use rim_accepted::{LaunchReason, ListedLaunch, LoadedLaunch, accept_with_list};
 use rim_check::refusal_line;
 use rim_manifest::Release;
 use rim_map::{RefusedLaunch, map_json, map_text, refused_json, refused_text};
@@ -52,9 +52,9 @@ fn map_of(
         (bytes_of_files loaded.entry.files.now) a.text.items a.status) }
     ensures status { IfOk result (λ a. a.status ≤ 1) }
 {
-    match accept_with_reason(alloc, loaded)? {
-        Ok(accepted) => Ok(Answer {
-            text: accepted_map(alloc, release, &accepted, format)?,
+    match accept_with_list(alloc, loaded)? {
+        Ok(listed) => Ok(Answer {
+            text: accepted_map(alloc, release, &listed, format)?,
             status: 0,
         }),
         Err(reason) => Ok(Answer {
@@ -68,15 +68,16 @@ fn map_of(
 fn accepted_map(
     alloc: Global,
     release: &Release,
-    accepted: &AcceptedLaunch<'_>,
+    listed: &ListedLaunch<'_>,
     format: Format,
 ) -> Result<Vec<u8>, NoMemory>
-    ensures { IfOk result (λ text. ShowsPlaced format release.now.paths accepted.now.named.now
-        (bytes_of_files accepted.now.files.now) accepted.now.placed text.items) }
+    ensures { IfOk result (λ text. ShowsPlaced format release.now.paths
+        listed.now.accepted.named.now (bytes_of_files listed.now.accepted.files.now)
+        listed.now.accepted.placed text.items) }
 {
     match format {
-        Format::Text => map_text(alloc, release, accepted),
-        Format::Json => map_json(alloc, release, accepted),
+        Format::Text => map_text(alloc, release, listed),
+        Format::Json => map_json(alloc, release, listed),
     }
 }
 

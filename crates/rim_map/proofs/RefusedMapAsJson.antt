@@ -67,7 +67,7 @@ space-float : (paths : List (List ℕ)) (l : NamedData) (files : List (List ℕ)
     → ShowsSpace paths l files why space → NoFloats space
 space-float paths l files (Layout why) space shows =
     subst NoFloats (sym shows.2) (stretches-float shows.0, stated-float (item_name l) paths 0 l.launch.items, regions-float [] l.launch.ram)
-space-float paths l files (Lists p why) space shows =
+space-float paths l files (Lists p why granules) space shows =
     subst NoFloats (sym shows.4) (
       stretches-float shows.1,
       items-float (item_name l) paths l.launch.items (rows_of l.launch files p),
@@ -82,9 +82,9 @@ refused-float l space line word none = rw (none.0, none.1, rule-float l.launch.c
 -- ---- the address space that is shown
 
 -- of a launch that has its place
-pub shows-placed : (paths : List (List ℕ)) (l : NamedData) (files : List (List ℕ)) (p : PlacedData) (why : ListReason) (rows : List Row)
-    (space : SpaceView) → rows ≡ rows_of l.launch files p → IsSpace paths l rows space → ShowsSpace paths l files (Lists p why) space
-shows-placed paths l files p why rows space placed is_space = (
+pub shows-placed : (paths : List (List ℕ)) (l : NamedData) (files : List (List ℕ)) (p : PlacedData) (why : ListReason) (granules : Option ℕ)
+    (rows : List Row) (space : SpaceView) → rows ≡ rows_of l.launch files p → IsSpace paths l rows space → ShowsSpace paths l files (Lists p why granules) space
+shows-placed paths l files p why granules rows space placed is_space = (
   is_space.taken,
   is_space.between,
   subst (λ (rs : List Row). AreRising (map row_pages rs) is_space.taken) placed is_space.rising,

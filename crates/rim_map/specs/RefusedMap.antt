@@ -68,7 +68,7 @@ stated_of paths l between = record {
 -- it has its place and no list
 abbrev pub ShowsSpace : List (List ℕ) → NamedData → List (List ℕ) → LaunchReason → SpaceView → Type 0
 ShowsSpace paths l files (Layout why) space = (between : List Stretch) × IsBetween l.launch.ram between × (space ≡ stated_of paths l between)
-ShowsSpace paths l files (Lists p why) space = (taken : List Stretch) × (between : List Stretch)
+ShowsSpace paths l files (Lists p why granules) space = (taken : List Stretch) × (between : List Stretch)
     × AreRising (map row_pages (rows_of l.launch files p)) taken × IsBetween l.launch.ram between
     × (space ≡ space_of paths l (rows_of l.launch files p) taken between)
 

@@ -107,7 +107,7 @@ pub fn count_extensions(
         accepted.now.placed))) }
 {
     let launch = accepted.launch();
-    let plan = LaunchPlan::of_launch(alloc, launch.config().algo, launch, &accepted.placed)?;
+    let plan = LaunchPlan::of_launch(alloc, launch.config().algo, launch, accepted.placed())?;
     counted(plan.links())
 }
 

@@ -5,10 +5,9 @@ ghost use Rattle.rim_map.specs.Granules.{HasGranules, granules_of, uses};
 
 use crate::numbers::sum;
 use refusal::NoMemory;
-use rim_accepted::AcceptedLaunch;
+use rim_accepted::ListedLaunch;
 use rim_desc::{Command, Measurement};
-use rmi_list::{Plan, list};
-use std::alloc::Global;
+use rmi_list::Plan;
 
 /// The content that each page is listed with here: no count looks at it.
 const ANY_CONTENT: Measurement = Measurement { bytes: [0; 64] };
@@ -119,15 +118,12 @@ impl Granules {
     }
 }
 
-/// The granules that the commands of a launch take, which is accepted. The launch is listed for it; no page is hashed.
-pub fn count_granules(alloc: Global, accepted: &AcceptedLaunch<'_>) -> Result<Granules, NoMemory>
+/// The granules that the commands of a launch take, which is accepted. No page is hashed.
+pub fn count_granules(listed: &ListedLaunch<'_>) -> Result<Granules, NoMemory>
     ensures { IfOk result
-        (HasGranules accepted.now.named.now.launch accepted.now.placed) }
+        (HasGranules listed.now.accepted.named.now.launch listed.now.accepted.placed) }
 {
-    match list(alloc, accepted.launch(), &accepted.placed) {
-        Ok(plan) => counted(&plan),
-        Err(_) => Err(NoMemory),
-    }
+    counted(&listed.plan)
 }
 
 /// The granules that the commands of a list take.

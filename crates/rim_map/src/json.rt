@@ -20,7 +20,7 @@ use crate::shown::Shown;
 use crate::stretches::{between, taken};
 use crate::warnings::warnings;
 use refusal::NoMemory;
-use rim_accepted::AcceptedLaunch;
+use rim_accepted::{AcceptedLaunch, ListedLaunch};
 use rim_launch::Config;
 use rim_line::Line;
 use rim_manifest::{NamedLaunch, Release};
@@ -34,17 +34,18 @@ use std::alloc::{AllocError, Global};
 pub fn map_json(
     alloc: Global,
     release: &Release,
-    accepted: &AcceptedLaunch<'_>,
+    listed: &ListedLaunch<'_>,
 ) -> Result<Vec<u8>, NoMemory>
-    ensures { IfOk result (λ text. IsMap release.now.paths accepted.now.named.now
-        (bytes_of_files accepted.now.files.now) accepted.now.placed text.items) }
+    ensures { IfOk result (λ text. IsMap release.now.paths listed.now.accepted.named.now
+        (bytes_of_files listed.now.accepted.files.now) listed.now.accepted.placed text.items) }
 {
-    let launch = accepted.named;
+    let accepted = &listed.accepted;
+    let launch = accepted.named();
     let shown = Shown { release, launch };
-    let granules = count_granules(alloc, accepted)?;
+    let granules = count_granules(listed)?;
     let extensions = count_extensions(alloc, accepted)?;
     let warnings = warning_values(alloc, accepted)?;
-    let rows = item_rows(alloc, launch.launch(), accepted.files, &accepted.placed)?;
+    let rows = item_rows(alloc, launch.launch(), accepted.files(), accepted.placed())?;
     let space = placed_space(alloc, shown, &rows)?;
     let value = map_value(alloc, launch, space, &granules, &extensions, warnings)?;
     text(alloc, &value)

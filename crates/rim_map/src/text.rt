@@ -7,7 +7,7 @@ use crate::rows::item_rows;
 use crate::shown::Shown;
 use crate::warnings::push_warnings;
 use refusal::NoMemory;
-use rim_accepted::AcceptedLaunch;
+use rim_accepted::{AcceptedLaunch, ListedLaunch};
 use rim_desc::RecRule;
 use rim_launch::Config;
 use rim_line::Line;
@@ -24,13 +24,14 @@ const DEFAULT_LEVEL: u8 = 2;
 pub fn map_text(
     alloc: Global,
     release: &Release,
-    accepted: &AcceptedLaunch<'_>,
+    listed: &ListedLaunch<'_>,
 ) -> Result<Vec<u8>, NoMemory> {
-    let launch = accepted.named;
+    let accepted = &listed.accepted;
+    let launch = accepted.named();
     let mut text = Lines::new(alloc);
     push_head(alloc, &mut text, launch)?;
     push_placed(alloc, &mut text, Shown { release, launch }, accepted)?;
-    push_counts(alloc, &mut text, accepted)?;
+    push_counts(alloc, &mut text, listed)?;
     push_warnings(alloc, &mut text, accepted)?;
     Ok(text.into_bytes())
 }
@@ -42,18 +43,24 @@ fn push_placed(
     shown: Shown<'_>,
     accepted: &AcceptedLaunch<'_>,
 ) -> Result<(), NoMemory> {
-    let rows = item_rows(alloc, accepted.launch(), accepted.files, &accepted.placed)?;
+    let rows = item_rows(
+        alloc,
+        accepted.launch(),
+        accepted.files(),
+        accepted.placed(),
+    )?;
     push_space(alloc, text, shown, &rows)
 }
 
 /// Adds the lines of granules and of extensions.
-fn push_counts(
-    alloc: Global,
-    text: &mut Lines,
-    accepted: &AcceptedLaunch<'_>,
-) -> Result<(), NoMemory> {
-    let granules = count_granules(alloc, accepted)?;
-    push_granules(alloc, text, &accepted.launch().config(), &granules)?;
+fn push_counts(alloc: Global, text: &mut Lines, listed: &ListedLaunch<'_>) -> Result<(), NoMemory> {
+    let accepted = &listed.accepted;
+    push_granules(
+        alloc,
+        text,
+        &accepted.launch().config(),
+        &count_granules(listed)?,
+    )?;
     push_extensions(alloc, text, &count_extensions(alloc, accepted)?)
 }
 

@@ -27,7 +27,7 @@ pub(crate) fn warnings(
     let mut lines = Vec::new(alloc);
     let mut seen = SeenTrees::new(alloc);
     for one in &find_unusual(alloc, &mut seen, accepted)? {
-        lines.push(warning(alloc, accepted.named.name(), one)?)?;
+        lines.push(warning(alloc, accepted.named().name(), one)?)?;
     }
     Ok(lines)
 }

@@ -133,7 +133,7 @@ fn edited_at<'a>(outcome: Option<&'a Result<AcceptedLaunch<'_>, AuditFault>>) ->
     ensures { result.now ≡ edited_at (option_map (λ r. place_of r.now) outcome.entry) }
 {
     match outcome {
-        Some(Ok(accepted)) => accepted.placed.edited().unwrap_or(&[]),
+        Some(Ok(accepted)) => accepted.placed().edited().unwrap_or(&[]),
         _ => &[],
     }
 }

@@ -86,7 +86,7 @@ fn push_step(
     let Step::Item(number) = step else {
         return Ok(());
     };
-    match item_at(accepted.placed.items(), number) {
+    match item_at(accepted.placed().items(), number) {
         Some(item) => push_item(ends, accepted.launch().config().algo, &item),
         None => Ok(()),
     }

@@ -30,5 +30,5 @@ fn plan(alloc: Global, accepted: &AcceptedLaunch<'_>) -> Result<LaunchPlan, NoMe
     ensures { IfOk result (IsReadOf accepted.now.named.now.launch accepted.now.placed) }
 {
     let launch = accepted.launch();
-    LaunchPlan::of_launch(alloc, launch.config().algo, launch, &accepted.placed)
+    LaunchPlan::of_launch(alloc, launch.config().algo, launch, accepted.placed())
 }

@@ -1,7 +1,7 @@
 //! Calls that make the map of a launch.
 use crate::trial::{Fault, Seen, begin, end, seen, text_digest};
 use refusal::NoMemory;
-use rim_accepted::{AcceptedLaunch, LoadedRelease, accept_with_reason};
+use rim_accepted::{ListedLaunch, LoadedRelease, accept_with_list};
 use rim_manifest::Release;
 use rim_map::{RefusedLaunch, map_json, map_text, refused_json, refused_text};
 
@@ -17,8 +17,8 @@ pub fn seen<R: Print + AllocGlobal>(
         return Err(Fault::Input);
     }
     let launch = loaded.launch(0);
-    match accept_with_reason(rt.alloc(), launch) {
-        Ok(Ok(accepted)) => mapped(rt, release, &accepted, is_json, is_tried),
+    match accept_with_list(rt.alloc(), launch) {
+        Ok(Ok(listed)) => mapped(rt, release, &listed, is_json, is_tried),
         Ok(Err(reason)) => {
             let refused = RefusedLaunch {
                 launch: launch.launch,
@@ -35,16 +35,16 @@ pub fn seen<R: Print + AllocGlobal>(
 fn mapped<R: Print + AllocGlobal>(
     rt: &R,
     release: &Release,
-    accepted: &AcceptedLaunch<'_>,
+    listed: &ListedLaunch<'_>,
     is_json: bool,
     is_tried: bool,
 ) -> Result<Seen, Fault> {
     let alloc = rt.alloc();
     begin(rt, is_tried)?;
     let answer = if is_json {
-        map_json(alloc, release, accepted)
+        map_json(alloc, release, listed)
     } else {
-        map_text(alloc, release, accepted)
+        map_text(alloc, release, listed)
     };
     end(rt, is_tried)?;
     Ok(seen!(alloc, answer, text_digest, NoMemory))

@@ -120,10 +120,10 @@ pub(crate) fn find_in_tree<'a>(
     let Some(number) = number_of(accepted.launch(), Role::Dtb) else {
         return Ok(());
     };
-    let item = accepted.named.item_name(number);
+    let item = accepted.named().item_name(number);
     let bytes = placed_bytes(accepted, number);
     match accepted
-        .placed
+        .placed()
         .items()
         .get(number)
         .and_then(|item| item.source)
@@ -212,7 +212,7 @@ fn initrd_place(accepted: &AcceptedLaunch<'_>) -> InitrdPlace {
     let Some(number) = number_of(accepted.launch(), Role::Initrd) else {
         return InitrdPlace::NONE;
     };
-    match accepted.placed.items().get(number) {
+    match accepted.placed().items().get(number) {
         Some(item) => {
             let count = placed_bytes(accepted, number).len() as u64;
             InitrdPlace::of(item.address, count)

@@ -13,12 +13,12 @@ pub(crate) fn firmware(accepted: &AcceptedLaunch<'_>) -> Option<PlacedItem> {
     if has_role(accepted.launch().items(), Role::Kernel) {
         return None;
     }
-    let entry = accepted.placed.recs().first()?.pc;
+    let entry = accepted.placed().recs().first()?.pc;
     let (_, placed) = accepted
         .launch()
         .items()
         .iter()
-        .zip(accepted.placed.items().iter())
+        .zip(accepted.placed().items().iter())
         .find(|(item, placed)| item.has_role(Role::Raw)
             && placed.measured
             && holds(placed, entry))?;
@@ -41,7 +41,7 @@ fn placed_tree(accepted: &AcceptedLaunch<'_>) -> Option<u64> {
         .items()
         .iter()
         .position(|item| item.has_role(Role::Dtb))?;
-    Some(accepted.placed.items().get(number)?.address)
+    Some(accepted.placed().items().get(number)?.address)
 }
 
 /// Whether an address is one of an item's, from its first byte to the end of its last page.

@@ -103,12 +103,12 @@ pub(crate) fn find_in_items<'a>(
         let bytes = placed_bytes(accepted, number);
         if let Some(unusual) = unusual_bytes(
             item.kind.role(),
-            accepted.named.item_name(number),
+            accepted.named().item_name(number),
             bytes,
         ) {
             found.push(Unusual::Item(unusual))?;
         }
-        if let Some(unusual) = same_file(accepted.named, number) {
+        if let Some(unusual) = same_file(accepted.named(), number) {
             found.push(Unusual::Item(unusual))?;
         }
     }
@@ -122,11 +122,8 @@ pub(crate) fn has_role(items: &[Item], role: Role) -> bool {
 
 /// The bytes of an item as it is placed, by its number; none where it has no file.
 pub(crate) fn placed_bytes<'a>(accepted: &'a AcceptedLaunch<'_>, number: usize) -> &'a [u8] {
-    let items = accepted.placed.items();
-    match items.get(number).and_then(|item| item.source) {
-        Some(source) => accepted.placed.bytes(accepted.files, source),
-        None => &[],
-    }
+    let item = accepted.placed().items().get(number);
+    item.and_then(|item| accepted.bytes_of(item)).unwrap_or(&[])
 }
 
 /// What is rarely meant of the bytes of an item with a role.

@@ -47,7 +47,7 @@ pub fn find_unusual<'a>(
         found.push(Unusual::Empty)?;
         return Ok(found);
     }
-    find_in_recs(&mut found, accepted.placed.recs())?;
+    find_in_recs(&mut found, accepted.placed().recs())?;
     find_in_items(&mut found, accepted)?;
     find_in_ram(&mut found, accepted)?;
     find_in_tree(alloc, &mut found, seen, accepted)?;

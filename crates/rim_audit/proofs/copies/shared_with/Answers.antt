@@ -17,7 +17,7 @@ returns c =
     let kept = c.requires in
     let launch = of_launch.launch.now in
     let marked : AreMarked kept.placed.items own.accepted.placed.items c.marked-marks.result =
-    rw (c.deref.ensures.value, kept.items, c.items.ensures) at c.marked-marks.ensures in
+    rw (c.deref.ensures.value, kept.items, c.items.ensures, c.placed.ensures) at c.marked-marks.ensures in
     let aux : launch.config.num_aux ≡ own.accepted.named.now.launch.config.num_aux
     = rw (c.config.ensures.value, c.config-2.ensures.value, c.launch.ensures) at (c.has_same_settings.ensures.aux c.if-not-has_same_settings.false) in
     let rule : launch.config.rec_rule ≡ own.accepted.named.now.launch.config.rec_rule

@@ -8,5 +8,5 @@ pub returns : goal.returns
 returns c =
     IfOk-weaker c.counted.result _ _
     (λ e is. is ∙ ap links_extensions c.links.ensures.links ∙ own-extensions _ _ _ _ c.args.accepted.now.is_placed
-    (rw c.launch-launch.ensures at c.in_ok-plan.ensures.read))
+    (rw (c.launch-launch.ensures, c.placed.ensures) at c.in_ok-plan.ensures.read))
     c.counted.ensures

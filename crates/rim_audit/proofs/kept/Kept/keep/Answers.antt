@@ -1,6 +1,7 @@
-use Rattle.std.proofs.Common.{◌∙◌}
+use Rattle.std.proofs.Common.{◌∙◌, ap}
 use Rattle.std.specs.Prelude.{is_ok}
 use Rattle.ipa_layout.specs.Files.{bytes_of_files}
+use Rattle.ipa_layout.specs.Layout.{PlacedData}
 use Rattle.rim_audit.specs.inside.Copies.{IsKept}
 use Rattle.rim_audit.proofs.CopiesOfMonitors.{all-pushed}
 use Rattle.rim_audit.proofs.kept.Kept.keep.Goals as goal
@@ -14,7 +15,7 @@ returns-clause-launches c =
     (record {
       placed = c.args.commands.accepted.placed;
       is_placed = rw c.launch-launch.ensures c.args.commands.accepted.is_placed;
-      items = c.in-Ok.ensures.items ∙ c.items.ensures;
+      items = c.in-Ok.ensures.items ∙ c.items.ensures ∙ ap (λ (q : PlacedData). q.items) c.placed.ensures;
       is_listed = rw c.launch-launch.ensures c.args.commands.is_listed;
       copies = rw c.launch-launch.ensures c.requires.copies;
     })
