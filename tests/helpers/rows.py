@@ -17,7 +17,8 @@ have the key itself:
   reference       why tools/oracles/reference.py is not asked
 
 Any other key of the top or of a row is a value: `{KEY}` in a text is replaced by it. `{program}` is the name and version of the
-program, as it prints them; a row of command-lines.toml says which they are. These are at the top alone:
+program, as it prints them; a row of command-lines.toml says which they are. `{no_numbers}` is the words of a listing for numbers of
+the realm's parameters that are not given. These are at the top alone:
 
   run             an array of tables of the keys above. A row has a run for each table; but for one with a key `of = "KEY"`
                   only where the row has the key KEY
@@ -40,6 +41,8 @@ import subprocess
 import tomllib
 
 from . import TOP
+
+import reference
 
 TESTS = os.path.join(TOP, "tests")
 PLACE = re.compile(r"\{(\w+)\}")
@@ -107,7 +110,7 @@ def runs_of_row(top, row):
 def runs_of_rows(name, said):
     """The runs of a file of rows, for a program that says this name and version."""
     with open(os.path.join(TESTS, "rows", name), "rb") as file:
-        top = {"program": said} | tomllib.load(file)
+        top = {"program": said, "no_numbers": " ".join("0" for _ in reference.NUMBERS)} | tomllib.load(file)
     for many in top.pop("row"):
         for row in times(many):
             for run in runs_of_row(top, row):

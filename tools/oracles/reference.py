@@ -56,10 +56,15 @@ class Measurement:
         self.extend(1, [(0x50, content)])
 
 
+# The numbers of a realm's parameters, in the order of a listing's words, each with its offset in the measured page
+# (DEN0137 1.0, RmiRealmParams).
+NUMBERS = {"sve_vl": 0x10, "num_bps": 0x18, "num_wps": 0x20, "pmu_num_ctrs": 0x28}
+
+
 def realm_page(launch):
     page = bytearray(PAGE)
     page[0] = (2 if launch.get("sve") else 0) | (4 if launch.get("pmu") else 0)
-    for offset, key in ((8, "s2sz"), (0x10, "sve_vl"), (0x18, "num_bps"), (0x20, "num_wps"), (0x28, "pmu_num_ctrs")):
+    for key, offset in {"s2sz": 8, **NUMBERS}.items():
         page[offset] = launch.get(key, 0)
     page[0x30] = 1 if launch["algo"] == "sha512" else 0
     return bytes(page)
@@ -103,7 +108,7 @@ class Listing:
         count = 1 << max(0, launch["s2sz"] - (12 + 9 * (4 - start)))
         base = [self.granule() for _ in range(count)][0]
         rd, flags = self.granule(), realm_page(launch)[0]
-        numbers = [str(launch.get(key, 0)) for key in ("sve_vl", "num_bps", "num_wps", "pmu_num_ctrs")]
+        numbers = [str(launch.get(key, 0)) for key in NUMBERS]
         self.line("realm_create", rd, base, str(start), str(count), str(launch["s2sz"]), launch["algo"], flags, *numbers)
         self.lines[-1] += " " + launch.get("rpv", "0" * 128).lower()
 

@@ -32,7 +32,7 @@ WORDS = {
 }
 SPELLED = {
     b"delegate": "A",
-    b"realm_create": "A A N N N ALGO A N N N N M",
+    b"realm_create": "A A N N N ALGO A" + " N" * len(reference.NUMBERS) + " M",
     b"rtt_create": "A A N",
     b"init_ripas": "A A",
     b"data_create": "A A CONTENT",
@@ -120,7 +120,7 @@ class Monitor:
             return "not-undelegated"
         self.owners[granule] = "DELEGATED"
 
-    def realm_create(self, rd, base, level, number, s2sz, algo, flags, sve_vl, num_bps, num_wps, pmu_num_ctrs, _rpv):
+    def realm_create(self, rd, base, level, number, s2sz, algo, flags, *others):
         if self.phase != "EMPTY":
             return "state"
         end = base + number * PAGE
@@ -135,7 +135,8 @@ class Monitor:
         self.phase, self.algo, self.start, self.protected_end = "NEW", algo, level, 1 << (s2sz - 1)
         # the tables below the start tables, by level and first address; the ranges of RAM, rising; the pages with data
         self.tables, self.ram, self.assigned = {level: set() for level in range(4)}, [], set()
-        numbers = {"sve_vl": sve_vl, "num_bps": num_bps, "num_wps": num_wps, "pmu_num_ctrs": pmu_num_ctrs}
+        # the others are the numbers, and last the Realm Personalization Value, which is not measured
+        numbers = dict(zip(reference.NUMBERS, others))
         page = reference.realm_page(numbers | {"algo": algo, "s2sz": s2sz, "sve": flags & 2, "pmu": flags & 4})
         self.rim = reference.Measurement(algo, page)
 
