@@ -3,7 +3,7 @@ use crate::placements::{REC, check};
 use ipa_layout::{
     Bootargs, Config, Edits, Item, ItemKind, Launch, Region, Role, Step, default_steps,
 };
-use rim_desc::Algo;
+use rim_desc::{Algo, NO_NUMBERS};
 use std::alloc::Global;
 use std::process::Abort;
 
@@ -44,10 +44,7 @@ const NARROW: Config = Config {
     s2sz: 33,
     sve: false,
     pmu: false,
-    sve_vl: 0,
-    num_bps: 0,
-    num_wps: 0,
-    pmu_num_ctrs: 0,
+    numbers: NO_NUMBERS,
     rpv: [0; 64],
     block_level: 2,
     num_aux: 0,

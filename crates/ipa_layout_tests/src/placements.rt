@@ -4,7 +4,7 @@ use ipa_layout::{
     Bootargs, Config, Edits, Item, ItemKind, Launch, LayoutFault, Placed, PlacedItem, PlacedRec,
     Rec, Region, Role, Source, Step, place,
 };
-use rim_desc::Algo;
+use rim_desc::{Algo, NO_NUMBERS};
 use std::alloc::Global;
 use std::process::Abort;
 
@@ -147,10 +147,7 @@ const CONFIG: Config = Config {
     s2sz: 40,
     sve: false,
     pmu: false,
-    sve_vl: 0,
-    num_bps: 0,
-    num_wps: 0,
-    pmu_num_ctrs: 0,
+    numbers: NO_NUMBERS,
     rpv: [0; 64],
     block_level: 2,
     num_aux: 0,

@@ -10,7 +10,7 @@ ghost use Rattle.launch_plan.specs.Rows.{IsFilled, IsRowOf};
 
 use page_jobs::{DigestRow, Page, PageJob, PageKey, Table};
 use rim_chain::{LaunchPlan, Link};
-use rim_desc::{Algo, RealmParams, RecParams, Source, hash, rec_page};
+use rim_desc::{Algo, NO_NUMBERS, RealmNumbers, RealmParams, RecParams, Source, hash, rec_page};
 use std::alloc::Global;
 use std::process::Abort;
 
@@ -32,10 +32,11 @@ fn realm(algo: Algo) -> RealmParams {
     RealmParams {
         flags: 0,
         s2sz: 33,
-        sve_vl: 0,
-        num_bps: 2,
-        num_wps: 3,
-        pmu_num_ctrs: 0,
+        numbers: RealmNumbers {
+            num_bps: 2,
+            num_wps: 3,
+            ..NO_NUMBERS
+        },
         rtt_level_start: 2,
         rtt_num_start: 1,
         algo,

@@ -2,6 +2,7 @@ pub mod Page
 pub mod Source
 pub mod PageBytes
 pub mod Measurement
+pub mod Numbers
 pub mod Realm
 pub mod Rec
 pub mod Rule

@@ -3,25 +3,20 @@ ghost use Rattle.std.specs.Prelude.{◌≡◌};
 ghost use Rattle.rim_desc.specs.Realm.{realm_page_of};
 
 use crate::measurement::Algo;
+use crate::numbers::{RealmNumbers, put_numbers};
 use crate::page::{PAGE_SIZE, put, zero_page};
 
 /// The parameters of a realm (DEN0137, RmiRealmParams), without VMID.
 ///
-/// Measured are `flags`, `s2sz`, `sve_vl`, `num_bps`, `num_wps`, `pmu_num_ctrs` and `algo`.
+/// Measured are `flags`, `s2sz`, `numbers` and `algo`.
 #[derive(Clone, Copy, Debug, PartialEq, Eq)]
 pub struct RealmParams {
     /// Bit 0 is LPA2, bit 1 SVE, bit 2 PMU.
     pub flags: u64,
     /// The width of an IPA in bits.
     pub s2sz: u8,
-    /// The SVE vector length, as the standard counts it.
-    pub sve_vl: u8,
-    /// The number of breakpoints.
-    pub num_bps: u8,
-    /// The number of watchpoints.
-    pub num_wps: u8,
-    /// The number of PMU counters.
-    pub pmu_num_ctrs: u8,
+    /// The numbers that have a row each.
+    pub numbers: RealmNumbers,
     /// The level of the start tables.
     pub rtt_level_start: u8,
     /// The number of start tables.
@@ -41,10 +36,7 @@ pub fn realm_page(params: &RealmParams) -> [u8; PAGE_SIZE]
     let mut page = zero_page();
     put(&mut page, 0x0, &params.flags.to_le_bytes());
     put(&mut page, 0x8, &[params.s2sz]);
-    put(&mut page, 0x10, &[params.sve_vl]);
-    put(&mut page, 0x18, &[params.num_bps]);
-    put(&mut page, 0x20, &[params.num_wps]);
-    put(&mut page, 0x28, &[params.pmu_num_ctrs]);
+    put_numbers(&mut page, &params.numbers);
     put(&mut page, 0x30, &[params.algo as u8]);
     page
 }

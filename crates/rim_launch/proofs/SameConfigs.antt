@@ -7,18 +7,15 @@ use mathlib.Core.HLevel.{is_prop→PathP}
 use Rattle.rmm_model.specs.Start.{is_width}
 use Rattle.rim_launch.specs.declared.config.Config.{Config}
 
-pub same-config : (a b : Config) → a.algo ≡ b.algo → a.s2sz ≡ b.s2sz → a.sve ≡ b.sve → a.pmu ≡ b.pmu → a.sve_vl ≡ b.sve_vl → a.num_bps ≡ b.num_bps
-    → a.num_wps ≡ b.num_wps → a.pmu_num_ctrs ≡ b.pmu_num_ctrs → a.rpv ≡ b.rpv → a.block_level ≡ b.block_level → a.num_aux ≡ b.num_aux → a.rec_rule ≡ b.rec_rule
+pub same-config : (a b : Config) → a.algo ≡ b.algo → a.s2sz ≡ b.s2sz → a.sve ≡ b.sve → a.pmu ≡ b.pmu → a.numbers ≡ b.numbers
+    → a.rpv ≡ b.rpv → a.block_level ≡ b.block_level → a.num_aux ≡ b.num_aux → a.rec_rule ≡ b.rec_rule
     → a.pool_base ≡ b.pool_base → a.pool_count ≡ b.pool_count → a ≡ b
-same-config a b algo s2sz sve pmu sve_vl num_bps num_wps pmu_num_ctrs rpv block_level num_aux rec_rule pool_base pool_count = λ i. record {
+same-config a b algo s2sz sve pmu numbers rpv block_level num_aux rec_rule pool_base pool_count = λ i. record {
   algo = algo i;
   s2sz = s2sz i;
   sve = sve i;
   pmu = pmu i;
-  sve_vl = sve_vl i;
-  num_bps = num_bps i;
-  num_wps = num_wps i;
-  pmu_num_ctrs = pmu_num_ctrs i;
+  numbers = numbers i;
   rpv = rpv i;
   block_level = block_level i;
   num_aux = num_aux i;

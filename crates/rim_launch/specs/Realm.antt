@@ -10,10 +10,7 @@ abbrev pub realm_params : Config → RealmParams
 realm_params c = record {
   flags = (if c.sve then 2 else 0) + (if c.pmu then 4 else 0);
   s2sz = c.s2sz;
-  sve_vl = c.sve_vl;
-  num_bps = c.num_bps;
-  num_wps = c.num_wps;
-  pmu_num_ctrs = c.pmu_num_ctrs;
+  numbers = c.numbers;
   rtt_level_start = start_level c.s2sz;
   rtt_num_start = start_count c.s2sz;
   algo = c.algo;

@@ -4,7 +4,7 @@ ghost use Rattle.rmm_model.specs.Start.{is_width};
 ghost use Rattle.rim_desc.specs.declared.rec.TheConstants.{AUX_LIMIT};
 ghost use Rattle.rim_launch.specs.declared.config.TheConstants.{POOL_LIMIT};
 
-use rim_desc::{Algo, RecRule};
+use rim_desc::{Algo, RealmNumbers, RecRule};
 
 /// The most granules of a pool: 16,777,216. This project's choice.
 pub const POOL_LIMIT: u64 = 16_777_216;
@@ -23,14 +23,8 @@ pub struct Config {
     pub sve: bool,
     /// Whether the realm has a PMU.
     pub pmu: bool,
-    /// The SVE vector length, as the standard counts it.
-    pub sve_vl: u8,
-    /// The number of breakpoints.
-    pub num_bps: u8,
-    /// The number of watchpoints.
-    pub num_wps: u8,
-    /// The number of PMU counters.
-    pub pmu_num_ctrs: u8,
+    /// The numbers of the realm's parameters that have a row each.
+    pub numbers: RealmNumbers,
     /// The Realm Personalization Value, which is not measured.
     pub rpv: [u8; 64],
     /// The lowest level of a block of RAM, 0 to 3.

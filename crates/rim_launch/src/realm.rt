@@ -16,10 +16,7 @@ pub fn realm_params(launch: &Launch) -> RealmParams
     RealmParams {
         flags: if config.sve { 2 } else { 0 } + if config.pmu { 4 } else { 0 },
         s2sz: config.s2sz,
-        sve_vl: config.sve_vl,
-        num_bps: config.num_bps,
-        num_wps: config.num_wps,
-        pmu_num_ctrs: config.pmu_num_ctrs,
+        numbers: config.numbers,
         rtt_level_start: start_level(config.s2sz),
         rtt_num_start: start_count(config.s2sz) as u8,
         algo: config.algo,

@@ -89,7 +89,7 @@ launch_made : (v : FormatVersion) (files : List Data) (n : ℕ) (d : Data) → l
     → is_launch (launch_of v files n d).launch ≡ true
 launch_made v files n (table ms) e single named =
     let good = good_launch v ms e in
-    let rest = good.launch.1.1.1.1.1.1.1.1.1.1.1.1.1.1 in
+    let rest = good.rest.1.1.1.1.1 in
     let once = not-false (kinds_once (array_at (codes "item") (table ms))) (or_parts (share_names (array_at (codes "item") (table ms))) _ single).1 in
     is_made v files n (table ms) (few_regions (codes "ram") Optional 64 _ rest.0) (few_tables (codes "item") Optional 64 _ rest.1.0)
     (few_tables (codes "rec") Optional 1024 _ rest.1.1.0) once good.asked named

@@ -17,7 +17,7 @@ use Rattle.rim_rules.specs.Forms.{is_table, items_list}
 use Rattle.rim_manifest.specs.Given.{EachGives, GivesBootargs, GivesBytes, GivesFile, GivesItem, GivesKind, GivesMeasured, GivesName}
 use Rattle.rim_manifest.specs.Given.{GivesNumber, GivesPath, GivesRec}
 use Rattle.rim_manifest.specs.Given.{GivesRule, GivesSize, GivesSteps, GivesWord, GivesWords, HasItsRule, IsGiven}
-use Rattle.rim_manifest.specs.Launches.{ReleaseData, config_of, items_of, ram_of, recs_of, launch_of, launches_from, rec_of}
+use Rattle.rim_manifest.specs.Launches.{ReleaseData, config_of, items_of, ram_of, recs_of, launch_of, launches_from, rec_of, number_of}
 use Rattle.rim_rules.specs.Values.{algorithm_in, array_at, base_in, digits_in, number_in, text_in, word_in, words_in}
 use Rattle.rim_manifest.specs.Manifest.{fault_or_named, fault_or_release, files_at, has_no_file, has_two_names, item_faults, launch_faults, launches_at}
 use Rattle.rim_manifest.specs.Manifest.{manifest_faults, name_faults, path_of, read_of, release_of}
@@ -33,7 +33,8 @@ use Rattle.rim_launch.specs.declared.item.Role.TheVariants.{Kernel, Initrd, Dtb,
 use Rattle.rim_manifest.specs.Items.{bootargs_in, item_of, kind_of, measured_for, size_for}
 use Rattle.rim_manifest.specs.Names.{file_at, has_file, is_named, lacks_file, lacks_its_file, name_of, needs_file, role_at}
 use Rattle.rim_rules.specs.Kinds.{kind_word, rules_of}
-use Rattle.rim_rules.specs.Rules.{added_rules, dtb_rules, file_rules, item_rules, launch_rules, launch_rules_2, rec_rules, unknown_rules}
+use Rattle.rim_rules.specs.Rules.{added_rules, dtb_rules, file_rules, item_rules, launch_rules, launch_rules_2, rec_rules, unknown_rules, number_rule}
+use Rattle.rim_desc.specs.Numbers.{Number, rmm_1_0}
 use Rattle.rim_rules.specs.Versions.{is_not_runnable, lacks_rule, rule_for, rule_in, launch_rules_in, version_at}
 use Rattle.rim_rules.specs.declared.version.FormatVersion.{FormatVersion}
 use Rattle.rim_rules.specs.declared.version.FormatVersion.TheVariants.{One, Two}
@@ -231,13 +232,18 @@ module _ (files : List Data) (tables : list_all is_table files ≡ true) (good :
 
   -- ---- launches
 
+  numbers_given : (rows : List Number) (ms : Members) → AllByRecursion (λ r. rule_faults r ms ≡ []) (map number_rule rows)
+      → AllByRecursion (λ row. GivesNumber 0 (get_member row.name ms) (number_of (table ms) row)) rows
+  numbers_given [] ms e = tt
+  numbers_given (row ∷ rows) ms e = (number_given 0 row.most 0 _ e.0, numbers_given rows ms e.1)
+
   launch_given : (v : FormatVersion) (n : ℕ) (d : Data) → is_table d ≡ true → launch_faults v d ≡ [] → lacks_file files d ≡ false
       → is_misnamed d ≡ false → IsGiven v files d (launch_of v files n d)
   unfolding config_of
   launch_given v n (table ms) t e found fits =
       let whole = good_launch v ms e in
       let each = whole.launch in
-      let rest = each.1.1.1.1.1.1.1.1.1.1.1.1 in
+      let rest = whole.rest.1.1.1 in
       let items = all_tables (codes "item") Optional 64 (get_member (codes "item") ms) rest.1.1.1.0 in
       let recs = all_tables (codes "rec") Optional 1024 (get_member (codes "rec") ms) rest.1.1.1.1.0 in
       let few = few_regions (codes "ram") Optional 64 _ rest.1.1.0 in
@@ -247,13 +253,10 @@ module _ (files : List Data) (tables : list_all is_table files ≡ true) (good :
         s2sz = number_there 32 48 32 _ each.1.1.0;
         sve = truth_given false _ each.1.1.1.0;
         pmu = truth_given false _ each.1.1.1.1.0;
-        sve_vl = number_given 0 255 0 _ each.1.1.1.1.1.0;
-        num_bps = number_given 0 255 0 _ each.1.1.1.1.1.1.0;
-        num_wps = number_given 0 255 0 _ each.1.1.1.1.1.1.1.0;
-        pmu_num_ctrs = number_given 0 255 0 _ each.1.1.1.1.1.1.1.1.0;
-        rpv = given (form.Digits 128) (λ o. GivesBytes o (digits_in o)) refl bytes_read (get_member (codes "rpv") ms) each.1.1.1.1.1.1.1.1.1.0;
-        block_level = number_given 0 3 2 _ each.1.1.1.1.1.1.1.1.1.1.0;
-        num_aux = number_given 0 16 0 _ each.1.1.1.1.1.1.1.1.1.1.1.0;
+        numbers = numbers_given rmm_1_0 ms whole.numbers;
+        rpv = given (form.Digits 128) (λ o. GivesBytes o (digits_in o)) refl bytes_read (get_member (codes "rpv") ms) whole.rest.0;
+        block_level = number_given 0 3 2 _ whole.rest.1.0;
+        num_aux = number_given 0 16 0 _ whole.rest.1.1.0;
         rec_rule = rule_given v ms whole.own;
         pool_base = given form.PoolBase (λ o. GivesNumber 0x800000000 o (base_in o)) refl base_read (get_member (codes "pool_base") ms) rest.0;
         pool_count = number_given 1 16777216 16777216 _ rest.1.0;

@@ -1,6 +1,6 @@
 -- What not-false of the values of a table, where no fault not-false.
 use Rattle.std.proofs.Common.{◌≡◌, ℕ, ◌≤◌, List, [], ◌∷◌, ◌++◌, length, Bool, true, false, cond, not, Option, Some, None, Ordering, Less, Equal, Greater, refl}
-use Rattle.std.proofs.Common.{ap, sym, ◌∙◌, codes, true≢false, arith}
+use Rattle.std.proofs.Common.{◌+◌, map, drop, ap, sym, ◌∙◌, codes, true≢false, arith}
 use Rattle.std.specs.Prelude.{nat_lt}
 use Rattle.std.specs.List.{AllByRecursion, flat_map, list_all}
 use Rattle.std.specs.Ordering.{nat_cmp, match_ordering}
@@ -19,7 +19,8 @@ use Rattle.rim_manifest.specs.Manifest.{files_at, item_faults, launch_faults, la
 use Rattle.rim_manifest.specs.Names.{has_asked}
 use Rattle.rim_rules.specs.Values.{array_at}
 use Rattle.rim_manifest.specs.Checks.{cell_faults, has_unknown_key, is_known, rule_faults, ruled_faults, table_faults, value_faults}
-use Rattle.rim_rules.specs.Rules.{Rule, added_rules, file_rules, launch_rules, launch_rules_2, rec_rules, top_rules}
+use Rattle.rim_desc.specs.Numbers.{rmm_1_0}
+use Rattle.rim_rules.specs.Rules.{Rule, added_rules, file_rules, launch_rules, launch_rules_2, number_rule, rec_rules, top_rules}
 use Rattle.rim_rules.specs.Versions.{has_version, lacks_rule, launch_rules_in, version_at}
 use Rattle.rim_rules.specs.declared.version.FormatVersion.{FormatVersion}
 use Rattle.rim_rules.specs.declared.version.FormatVersion.TheVariants.{One, Two}
@@ -127,6 +128,9 @@ rules_of_both Two ms e = (all_first (λ r. rule_faults r ms ≡ []) launch_rules
 pub record LaunchIsGood (v : FormatVersion) (ms : Members) : Type 0 where
   pub own : table_faults (launch_rules_in v) ms ≡ []
   pub launch : AllByRecursion (λ r. rule_faults r ms ≡ []) launch_rules
+  pub numbers : AllByRecursion (λ r. rule_faults r ms ≡ []) (map number_rule rmm_1_0)
+  -- of the keys after the numbers
+  pub rest : AllByRecursion (λ r. rule_faults r ms ≡ []) (drop (5 + length rmm_1_0) launch_rules)
   pub items : flat_map item_faults (array_at (codes "item") (table ms)) ≡ []
   pub recs : flat_map (ruled_faults rec_rules) (array_at (codes "rec") (table ms)) ≡ []
   pub asked : has_asked (table ms) ≡ true
@@ -139,9 +143,13 @@ good_launch v ms e =
     let after_items = empty_parts (flat_map item_faults (array_at (codes "item") (table ms))) _ after_table.1 in
     let after_recs = empty_parts (flat_map (ruled_faults rec_rules) (array_at (codes "rec") (table ms))) _ after_items.1 in
     let after_asked = empty_parts (fault_if (not (has_asked (table ms))) MissingKey) _ after_recs.1 in
+    let launch = rules_of_both v ms after_table.0 in
+    let numbers = all_first (λ r. rule_faults r ms ≡ []) (map number_rule rmm_1_0) (drop (5 + length rmm_1_0) launch_rules) launch.1.1.1.1.1 in
     record {
       own = after_table.0;
-      launch = rules_of_both v ms after_table.0;
+      launch = launch;
+      numbers = numbers.0;
+      rest = numbers.1;
       items = after_items.0;
       recs = after_recs.0;
       asked = not-false (has_asked (table ms)) (not_faulty (not (has_asked (table ms))) MissingKey after_asked.0);

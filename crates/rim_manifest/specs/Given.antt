@@ -1,10 +1,11 @@
 -- What a manifest gives, said apart from the defaults that its reader falls back on: what is read at a key is the
 -- value at it, and a default is read only where the key is absent. This project's choice.
 use Rattle.std.specs.Prelude.{◌≡◌, ℕ, ◌+◌, Bool, true, false, not, pos, List, [], ◌∷◌, ◌++◌, length, Option, Some, None, IsSome, Ok, codes, slice_get}
-use Rattle.std.specs.List.{list_any}
+use Rattle.std.specs.List.{AllByRecursion, list_any}
 use Rattle.std.specs.Str.Parse.{digits_value}
 use Rattle.hex.specs.Hex.{decode_sized}
 use Rattle.toml.specs.Data.{Data, string, integer, boolean, at, get}
+use Rattle.rim_desc.specs.Numbers.{rmm_1_0}
 use Rattle.rim_desc.specs.Page.{zeros}
 use Rattle.rim_launch.specs.Kinds.{file_of, role_of}
 use Rattle.rim_launch.specs.LaunchData.{LaunchData}
@@ -181,10 +182,7 @@ pub record IsGiven (v : FormatVersion) (files : List Data) (d : Data) (l : Named
   pub s2sz : get (codes "s2sz") d ≡ Some (integer (pos l.launch.config.s2sz))
   pub sve : GivesTruth false (get (codes "sve") d) l.launch.config.sve
   pub pmu : GivesTruth false (get (codes "pmu") d) l.launch.config.pmu
-  pub sve_vl : GivesNumber 0 (get (codes "sve_vl") d) l.launch.config.sve_vl
-  pub num_bps : GivesNumber 0 (get (codes "num_bps") d) l.launch.config.num_bps
-  pub num_wps : GivesNumber 0 (get (codes "num_wps") d) l.launch.config.num_wps
-  pub pmu_num_ctrs : GivesNumber 0 (get (codes "pmu_num_ctrs") d) l.launch.config.pmu_num_ctrs
+  pub numbers : AllByRecursion (λ row. GivesNumber 0 (get row.name d) (row.value l.launch.config.numbers)) rmm_1_0
   pub rpv : GivesBytes (get (codes "rpv") d) l.launch.config.rpv
   pub block_level : GivesNumber 2 (get (codes "block_level") d) l.launch.config.block_level
   pub num_aux : GivesNumber 0 (get (codes "num_aux") d) l.launch.config.num_aux

@@ -15,6 +15,8 @@ use Rattle.rim_rules.specs.declared.version.FormatVersion.{FormatVersion}
 use Rattle.rim_rules.specs.Versions.{rule_for}
 use Rattle.rim_rules.specs.Values.{algorithm_in, array_at, base_in, digits_in, number_in, text_in, truth_in, whole_in, word_in, words_in}
 use Rattle.rim_manifest.specs.inside.NumberRanges.{base_aligned, base_low, number_from, number_to, number_within, region_if}
+use Rattle.rim_desc.specs.Numbers.{Number, numbers_from, rmm_1_0}
+use Rattle.rim_desc.specs.declared.numbers.RealmNumbers.{RealmNumbers}
 use Rattle.rim_desc.specs.declared.rec.TheConstants.{AUX_LIMIT}
 use Rattle.rim_launch.specs.declared.config.TheConstants.{POOL_LIMIT}
 use Rattle.rmm_model.specs.declared.start.TheConstants.{LEAST_WIDTH, MOST_WIDTH}
@@ -38,6 +40,13 @@ pub record ReleaseData : Type 0 where
 abbrev pub AreNumbered : ReleaseData → Type 0
 AreNumbered r = (i : ℕ) (l : NamedData) → slice_get r.launches i ≡ Some l → (l.launch.number ≡ i) × (has_files l.launch (length r.paths) ≡ true)
 
+-- the number of a row, at the key of its name
+abbrev pub number_of : Data → Number → ℕ
+number_of d row = number_in 0 row.most 0 (get row.name d)
+
+abbrev pub numbers_of : Data → RealmNumbers
+numbers_of d = numbers_from (map (number_of d) rmm_1_0)
+
 -- the configuration, and why each of its numbers is in range
 unfoldable pub config_of : FormatVersion → Data → Config
 config_of v d = record {
@@ -45,10 +54,7 @@ config_of v d = record {
   s2sz = number_in LEAST_WIDTH MOST_WIDTH LEAST_WIDTH (get (codes "s2sz") d);
   sve = truth_in false (get (codes "sve") d);
   pmu = truth_in false (get (codes "pmu") d);
-  sve_vl = number_in 0 255 0 (get (codes "sve_vl") d);
-  num_bps = number_in 0 255 0 (get (codes "num_bps") d);
-  num_wps = number_in 0 255 0 (get (codes "num_wps") d);
-  pmu_num_ctrs = number_in 0 255 0 (get (codes "pmu_num_ctrs") d);
+  numbers = numbers_of d;
   rpv = digits_in (get (codes "rpv") d);
   block_level = number_in 0 3 2 (get (codes "block_level") d);
   num_aux = number_in 0 AUX_LIMIT 0 (get (codes "num_aux") d);

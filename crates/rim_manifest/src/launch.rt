@@ -2,7 +2,7 @@
 ghost use Rattle.std.specs.Prelude.{◌≡◌, map, string_bytes};
 ghost use Rattle.refusal.specs.Answer.{Answers};
 ghost use Rattle.toml.specs.View.{view};
-ghost use Rattle.rim_manifest.specs.Launches.{NamedData, config_of, item_name, launch_of};
+ghost use Rattle.rim_manifest.specs.Launches.{NamedData, config_of, item_name, launch_of, numbers_of};
 ghost use Rattle.rim_manifest.specs.Manifest.{made};
 
 use crate::fault::ManifestFault;
@@ -11,7 +11,7 @@ use crate::rec::read_recs;
 use crate::region::read_regions;
 use crate::step::read_steps;
 use crate::texts::read_texts;
-use rim_desc::AUX_LIMIT;
+use rim_desc::{AUX_LIMIT, NUMBER_COUNT, RealmNumbers};
 use rim_launch::{Config, Launch, POOL_LIMIT};
 use rim_rules::value::{algorithm, array, byte, digits, number, pool_base, text, truth};
 use rim_rules::version::{FormatVersion, rec_rule};
@@ -103,10 +103,7 @@ fn read_config(version: FormatVersion, table: &Value) -> Config
         s2sz: byte(table, "s2sz", LEAST_WIDTH, MOST_WIDTH, LEAST_WIDTH),
         sve: truth(table, "sve", false),
         pmu: truth(table, "pmu", false),
-        sve_vl: byte(table, "sve_vl", 0, 255, 0),
-        num_bps: byte(table, "num_bps", 0, 255, 0),
-        num_wps: byte(table, "num_wps", 0, 255, 0),
-        pmu_num_ctrs: byte(table, "pmu_num_ctrs", 0, 255, 0),
+        numbers: read_numbers(table),
         rpv: digits(table, "rpv"),
         block_level: byte(table, "block_level", 0, 3, 2),
         num_aux: byte(table, "num_aux", 0, AUX_LIMIT as u8, 0),
@@ -114,4 +111,16 @@ fn read_config(version: FormatVersion, table: &Value) -> Config
         pool_base: pool_base(table, "pool_base"),
         pool_count: number(table, "pool_count", 1, POOL_LIMIT, POOL_LIMIT),
     }
+}
+
+/// The numbers of the realm's parameters, each at the key that its row names.
+fn read_numbers(table: &Value) -> RealmNumbers
+    ensures { result ≡ numbers_of (view table.now) }
+{
+    let rows = RealmNumbers::rows();
+    let mut numbers = [0; NUMBER_COUNT];
+    for at in 0..NUMBER_COUNT {
+        numbers[at] = byte(table, rows[at].name, 0, rows[at].most, 0);
+    }
+    RealmNumbers::from_order(numbers)
 }

@@ -1,11 +1,12 @@
 -- The keys of a manifest's tables: what each may hold, and whether it has to be given. This project's
 -- choice; what a realm's parameters may be is DEN0137's, RmiRealmParams.
-use Rattle.std.specs.Prelude.{ℕ, pos, List, [], ◌∷◌, ◌++◌, codes}
+use Rattle.std.specs.Prelude.{ℕ, pos, List, [], ◌∷◌, ◌++◌, codes, map}
 use Rattle.std.specs.Borrow.{Bor}
 use Rattle.rim_rules.specs.declared.form.Form.{Form}
 use Rattle.rim_rules.specs.declared.form.Form.TheVariants as form
 use Rattle.rim_rules.specs.declared.form.Presence.{Presence}
 use Rattle.rim_rules.specs.declared.form.Presence.TheVariants.{Required, Optional}
+use Rattle.rim_desc.specs.Numbers.{Number, rmm_1_0}
 use Rattle.rim_desc.specs.declared.rec.TheConstants.{AUX_LIMIT}
 use Rattle.rim_launch.specs.declared.config.TheConstants.{POOL_LIMIT}
 use Rattle.rmm_model.specs.declared.start.TheConstants.{LEAST_WIDTH, MOST_WIDTH}
@@ -23,6 +24,10 @@ rule_of r = record { key = r.0.now; form = r.1; presence = r.2 }
 
 abbrev pub rule : List ℕ → Form → Presence → Rule
 rule key form presence = record { key = key; form = form; presence = presence }
+
+-- a number of a realm's parameters
+abbrev pub number_rule : Number → Rule
+number_rule row = rule row.name (form.Number (pos 0) (pos row.most)) Optional
 
 -- the keys at the top
 abbrev pub top_rules : List Rule
@@ -45,11 +50,8 @@ launch_rules =
     ∷ rule (codes "s2sz") (form.Number (pos LEAST_WIDTH) (pos MOST_WIDTH)) Required
     ∷ rule (codes "sve") form.Truth Optional
     ∷ rule (codes "pmu") form.Truth Optional
-    ∷ rule (codes "sve_vl") (form.Number (pos 0) (pos 255)) Optional
-    ∷ rule (codes "num_bps") (form.Number (pos 0) (pos 255)) Optional
-    ∷ rule (codes "num_wps") (form.Number (pos 0) (pos 255)) Optional
-    ∷ rule (codes "pmu_num_ctrs") (form.Number (pos 0) (pos 255)) Optional
-    ∷ rule (codes "rpv") (form.Digits 128) Optional
+    ∷ map number_rule rmm_1_0
+    ++ (rule (codes "rpv") (form.Digits 128) Optional
     ∷ rule (codes "block_level") (form.Number (pos 0) (pos 3)) Optional
     ∷ rule (codes "num_aux") (form.Number (pos 0) (pos AUX_LIMIT)) Optional
     ∷ rule (codes "pool_base") form.PoolBase Optional
@@ -57,7 +59,7 @@ launch_rules =
     ∷ rule (codes "ram") (form.Regions REGION_LIMIT) Optional
     ∷ rule (codes "item") (form.Tables ITEM_LIMIT) Optional
     ∷ rule (codes "rec") (form.Tables NAMED_REC_LIMIT) Optional
-    ∷ rule (codes "steps") form.Texts Optional ∷ []
+    ∷ rule (codes "steps") form.Texts Optional ∷ [])
 
 -- the key that version 2 adds
 abbrev pub added_rules : List Rule

@@ -45,6 +45,7 @@ pub const LAUNCH_RULES: [Rule; 19] = [
     ),
     ("sve", Form::Truth, Optional),
     ("pmu", Form::Truth, Optional),
+    // The numbers of the realm's parameters, which are proved to be those of `rim_desc`'s rows.
     ("sve_vl", Form::Number { low: 0, high: 255 }, Optional),
     ("num_bps", Form::Number { low: 0, high: 255 }, Optional),
     ("num_wps", Form::Number { low: 0, high: 255 }, Optional),

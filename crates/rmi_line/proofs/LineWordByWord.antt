@@ -36,6 +36,13 @@ grown-between line word front back =
     grown-append line front (word ∷ back) ∙ grown-spaced (grown line front ++ spaced word) back
     ∙ ap (λ l. (l ++ spaced word) ++ flat_map spaced back) (grown-spaced line front)
 
+-- a run of words between others, before the last one
+pub grown-run : (line word : List ℕ) (front run : List (List ℕ))
+    → grown line (front ++ (run ++ (word ∷ []))) ≡ (grown line front ++ flat_map spaced run) ++ spaced word
+grown-run line word front run =
+    grown-append line front (run ++ (word ∷ [])) ∙ grown-append (grown line front) run (word ∷ [])
+    ∙ ap (λ l. l ++ spaced word) (grown-spaced (grown line front) run)
+
 pub joined : (word : List ℕ) (words : List (List ℕ)) → join_with_byte 32 (word ∷ words) ≡ word ++ flat_map spaced words
 joined word [] = sym (append-nil word)
 joined word (next ∷ words) = ap (λ t. word ++ (32 ∷ t)) (joined next words)

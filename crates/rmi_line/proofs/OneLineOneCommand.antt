@@ -1,5 +1,5 @@
 -- A command comes back from its words, so no two commands have the same line, and what is read of a command's line is it.
-use Rattle.std.proofs.Common.{◌≡◌, ℕ, zero, suc, ◌^◌, ◌<◌, cond, List, [], ◌∷◌, ◌++◌, length, map, take, drop, get_or, refl, sym, ap, ◌∙◌, arith, codes, Option, Some, None}
+use Rattle.std.proofs.Common.{◌≡◌, ℕ, zero, suc, ◌+◌, ◌^◌, ◌<◌, cond, List, [], ◌∷◌, ◌++◌, length, map, take, drop, get_or, refl, sym, ap, ◌∙◌, arith, codes, Option, Some, None}
 use Rattle.std.proofs.Math.Seq.{drop-append_seam, take-append_seam}
 use Rattle.std.proofs.lemmas.Fmt.{decimal_is_IsNumeral}
 use Rattle.std.proofs.lemmas.List.{length-map}
@@ -15,6 +15,9 @@ use Rattle.std.specs.Str.Parse.{digits_value}
 use Rattle.hex.specs.Hex.{IsBytes, decode_of, encode_lower}
 use Rattle.hex.proofs.HexLemmas.{decode_of-encode_lower}
 use Rattle.rim_desc.specs.Number.{digits_of}
+use Rattle.rim_desc.specs.Numbers.{in_order, numbers_from}
+use Rattle.rim_desc.specs.declared.numbers.RealmNumbers.{RealmNumbers}
+use Rattle.rim_desc.specs.declared.numbers.TheConstants.{NUMBER_COUNT}
 use Rattle.rim_desc.specs.Rec.{RecData}
 use Rattle.rim_desc.specs.declared.command.Command.{Command}
 use Rattle.rim_desc.specs.declared.command.Command.TheVariants.{Delegate, RealmCreate, RttCreate, InitRipas, DataCreate, DataCreateUnknown, RecCreate, Activate}
@@ -48,6 +51,9 @@ at words k = get_or words k []
 content_said : List (List ℕ) → Option Measurement
 content_said words = cond (bytes_eq (at words 0) (codes "measured")) (Some (record { bytes = bytes_said (at words 1) })) None
 
+numbers_said : List (List ℕ) → RealmNumbers
+numbers_said words = numbers_from (map number_said (take NUMBER_COUNT words))
+
 realm_said : List (List ℕ) → RealmParams
 realm_said words = record {
   rtt_base = address_said (at words 0);
@@ -56,11 +62,8 @@ realm_said words = record {
   s2sz = number_said (at words 3);
   algo = algo_said (at words 4);
   flags = address_said (at words 5);
-  sve_vl = number_said (at words 6);
-  num_bps = number_said (at words 7);
-  num_wps = number_said (at words 8);
-  pmu_num_ctrs = number_said (at words 9);
-  rpv = bytes_said (at words 10);
+  numbers = numbers_said (drop 6 words);
+  rpv = bytes_said (at words (6 + NUMBER_COUNT));
 }
 
 rec_said : List (List ℕ) → RecData
@@ -114,6 +117,15 @@ number_again : (n : ℕ) → n < 2 ^ 8 → number_said (decimal n) ≡ n
 unfolding number_said
 number_again n fits = (decimal_is_IsNumeral n (omega arith)).1
 
+each_again : (numbers : List ℕ) → All IsByte numbers → map number_said (map decimal numbers) ≡ numbers
+each_again [] fit = refl
+each_again (n ∷ numbers) fit =
+    rw (number_again n (fit 0 0 (omega arith)), each_again numbers (All-tail IsByte n numbers fit)) refl
+
+numbers_again : (n : RealmNumbers) → All IsByte (in_order n) → (others : List (List ℕ)) → numbers_said (map decimal (in_order n) ++ others) ≡ n
+unfolding numbers_said
+numbers_again n fit others = ap numbers_from (each_again (in_order n) fit)
+
 algo_again : (algo : Algo) → algo_said (algo_word algo) ≡ algo
 unfolding algo_said
 algo_again Sha256 = refl
@@ -137,10 +149,7 @@ realm_again p fit = rw (
   number_again p.rtt_level_start fit.rtt_level_start,
   number_again p.rtt_num_start fit.rtt_num_start,
   number_again p.s2sz fit.s2sz,
-  number_again p.sve_vl fit.sve_vl,
-  number_again p.num_bps fit.num_bps,
-  number_again p.num_wps fit.num_wps,
-  number_again p.pmu_num_ctrs fit.pmu_num_ctrs,
+  numbers_again p.numbers fit.numbers (encode_lower p.rpv ∷ []),
   algo_again p.algo,
   bytes_again p.rpv fit.rpv.1,
 ) refl

@@ -7,6 +7,7 @@ use Rattle.std.specs.Fmt.{decimal}
 use Rattle.std.specs.List.{join_with_byte}
 use Rattle.hex.specs.Hex.{encode_lower}
 use Rattle.rim_desc.specs.Number.{digits_of}
+use Rattle.rim_desc.specs.Numbers.{in_order}
 use Rattle.rim_desc.specs.Rec.{RecData}
 use Rattle.rim_desc.specs.declared.command.Command.{Command}
 use Rattle.rim_desc.specs.declared.command.Command.TheVariants.{Delegate, RealmCreate, RttCreate, InitRipas, DataCreate, DataCreateUnknown, RecCreate, Activate}
@@ -17,8 +18,8 @@ use Rattle.rim_desc.specs.Measurement.{algo_word}
 -- the parameters of a realm
 abbrev pub realm_words : RealmParams → List (List ℕ)
 realm_words p = digits_of p.rtt_base ∷ decimal p.rtt_level_start ∷ decimal p.rtt_num_start
-    ∷ decimal p.s2sz ∷ algo_word p.algo ∷ digits_of p.flags ∷ decimal p.sve_vl ∷ decimal p.num_bps
-    ∷ decimal p.num_wps ∷ decimal p.pmu_num_ctrs ∷ encode_lower p.rpv ∷ []
+    ∷ decimal p.s2sz ∷ algo_word p.algo ∷ digits_of p.flags
+    ∷ map decimal (in_order p.numbers) ++ (encode_lower p.rpv ∷ [])
 
 -- the measurement of a page's bytes, or that they are not measured
 abbrev pub content_words : Option Measurement → List (List ℕ)

@@ -7,6 +7,7 @@ use Rattle.rim_desc.specs.declared.command.Command.TheVariants.{Delegate, RealmC
 use Rattle.rim_desc.specs.declared.measurement.Measurement.{Measurement}
 use Rattle.rim_desc.specs.declared.realm.RealmParams.{RealmParams}
 use Rattle.rim_desc.specs.declared.rec.TheConstants.{AUX_LIMIT}
+use Rattle.rim_desc.specs.Numbers.{in_order}
 use Rattle.rim_desc.specs.Rec.{RecData}
 
 -- a number of 64 bits
@@ -33,10 +34,7 @@ pub record IsRealm (p : RealmParams) : Type 0 where
   pub rtt_num_start : IsByte p.rtt_num_start
   pub s2sz : IsByte p.s2sz
   pub flags : IsWord p.flags
-  pub sve_vl : IsByte p.sve_vl
-  pub num_bps : IsByte p.num_bps
-  pub num_wps : IsByte p.num_wps
-  pub pmu_num_ctrs : IsByte p.pmu_num_ctrs
+  pub numbers : All IsByte (in_order p.numbers)
   pub rpv : Are64Bytes p.rpv
 
 -- the parameters of a REC: x0 to x7, and at most 16 auxiliary granules

@@ -7,7 +7,9 @@ ghost use Rattle.rmi_line.specs.Spelled.{Spells};
 ghost use Rattle.rmi_line.specs.inside.Words.{spaced};
 
 use crate::typed::typed;
-use crate::words::{push_address, push_addresses, push_bytes, push_number, push_word};
+use crate::words::{
+    push_address, push_addresses, push_bytes, push_number, push_numbers, push_word,
+};
 use refusal::NoMemory;
 use rim_desc::{Command, Measurement, RealmParams, RecParams};
 use std::alloc::Global;
@@ -72,10 +74,7 @@ pub fn push_realm(line: &mut Vec<u8>, params: &RealmParams) -> Result<(), NoMemo
     push_number(line, params.s2sz)?;
     push_word(line, params.algo.word().as_bytes())?;
     push_address(line, params.flags)?;
-    push_number(line, params.sve_vl)?;
-    push_number(line, params.num_bps)?;
-    push_number(line, params.num_wps)?;
-    push_number(line, params.pmu_num_ctrs)?;
+    push_numbers(line, &params.numbers.in_order())?;
     push_bytes(line, &params.rpv)?;
     Ok(())
 }

@@ -4,6 +4,7 @@ ghost use Rattle.std.specs.List.{All, flat_map};
 ghost use Rattle.hex.specs.Hex.{encode_lower};
 ghost use Rattle.rim_desc.specs.Measurement.{algo_word};
 ghost use Rattle.rim_desc.specs.Number.{digits_of};
+ghost use Rattle.rim_desc.specs.Numbers.{in_order};
 ghost use Rattle.rim_desc.specs.Rule.{rule_word};
 ghost use Rattle.rim_desc.specs.declared.command.Command.{Command};
 ghost use Rattle.rim_desc.specs.declared.measurement.Algo.{Algo};
@@ -18,7 +19,7 @@ ghost use Rattle.rmi_line.specs.inside.Words.{spaced};
 use crate::digits::{decode, front_number};
 use crate::typed::typed;
 use itoa::Buffer;
-use rim_desc::{AUX_LIMIT, Algo, Command, Measurement, RecRule};
+use rim_desc::{AUX_LIMIT, Algo, Command, Measurement, NUMBER_COUNT, RealmNumbers, RecRule};
 
 /// What is left of a line: words, each with the space before it.
 ///
@@ -118,6 +119,26 @@ impl<'a> Words<'a> {
         let number = front_number(self.rest);
         self.word(Buffer::new().format(number).as_bytes());
         number
+    }
+
+    /// Takes a number of 8 bits for each place.
+    fn each_number(&mut self, places: &mut [u8])
+        ensures { Takes (λ ns. map decimal ns)
+            (λ ns. (length ns ≡ length places.old) × All IsByte ns) self.old places.new self.new }
+    {
+        for place in places.iter_mut() {
+            *place = self.number();
+        }
+    }
+
+    /// Takes the numbers of a realm's parameters.
+    pub fn numbers(&mut self) -> RealmNumbers
+        ensures { Takes (λ n. map decimal (in_order n)) (λ n. All IsByte (in_order n))
+            self.old result self.new }
+    {
+        let mut numbers = [0; NUMBER_COUNT];
+        self.each_number(&mut numbers);
+        RealmNumbers::from_order(numbers)
     }
 
     /// Takes the number of a REC's auxiliary granules, of which it has at most [`AUX_LIMIT`].

@@ -60,10 +60,7 @@ fn realm_create(rest: &[u8]) -> Option<Command>
         s2sz: words.number(),
         algo: words.algo(),
         flags: words.address(),
-        sve_vl: words.number(),
-        num_bps: words.number(),
-        num_wps: words.number(),
-        pmu_num_ctrs: words.number(),
+        numbers: words.numbers(),
         rpv: words.bytes(),
     };
     words.end(Command::RealmCreate { rd, params })

@@ -15,15 +15,8 @@ pub fn typed(command: &Command)
         Command::Delegate { granule } => words_fit(&[granule]),
         Command::RealmCreate { rd, params } => {
             words_fit(&[rd, params.rtt_base, params.flags]);
-            bytes_fit(&[
-                params.rtt_level_start,
-                params.rtt_num_start,
-                params.s2sz,
-                params.sve_vl,
-                params.num_bps,
-                params.num_wps,
-                params.pmu_num_ctrs,
-            ]);
+            bytes_fit(&[params.rtt_level_start, params.rtt_num_start, params.s2sz]);
+            bytes_fit(&params.numbers.in_order());
             bytes_fit(&params.rpv);
         }
         Command::RttCreate { rtt, ipa, level } => {

@@ -44,6 +44,17 @@ pub fn push_number(line: &mut Vec<u8>, number: u8) -> Result<(), NoMemory>
     push_word(line, Buffer::new().format(number).as_bytes())
 }
 
+/// Adds numbers of 8 bits, in their order.
+pub fn push_numbers(line: &mut Vec<u8>, numbers: &[u8]) -> Result<(), NoMemory>
+    ensures { OnOk result
+        (line.new.items ≡ line.old.items ++ flat_map spaced (map decimal numbers.now)) }
+{
+    for number in numbers {
+        push_number(line, *number)?;
+    }
+    Ok(())
+}
+
 /// Adds the 64 bytes of a measurement, or of a personalization value.
 pub fn push_bytes(line: &mut Vec<u8>, bytes: &[u8; 64]) -> Result<(), NoMemory>
     ensures { OnOk result (line.new.items ≡ line.old.items ++ spaced (encode_lower bytes.now)) }

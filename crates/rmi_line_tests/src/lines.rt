@@ -1,4 +1,4 @@
-use rim_desc::{Algo, Command, Measurement, RealmParams, RecParams};
+use rim_desc::{Algo, Command, Measurement, NO_NUMBERS, RealmNumbers, RealmParams, RecParams};
 use rmi_line::{print_line, read_line};
 use std::alloc::Global;
 use std::process::Abort;
@@ -6,10 +6,7 @@ use std::process::Abort;
 const SMALL: RealmParams = RealmParams {
     flags: 0,
     s2sz: 40,
-    sve_vl: 0,
-    num_bps: 0,
-    num_wps: 0,
-    pmu_num_ctrs: 0,
+    numbers: NO_NUMBERS,
     rtt_level_start: 1,
     rtt_num_start: 2,
     algo: Algo::Sha256,
@@ -21,10 +18,13 @@ const SMALL: RealmParams = RealmParams {
 const FULL: RealmParams = RealmParams {
     flags: 0xffff_ffff_ffff_fffe,
     s2sz: 48,
-    sve_vl: 9,
-    num_bps: 10,
-    num_wps: 99,
-    pmu_num_ctrs: 100,
+    numbers: RealmNumbers {
+        sve_vl: 9,
+        num_bps: 10,
+        num_wps: 99,
+        pmu_num_ctrs: 100,
+        ..NO_NUMBERS
+    },
     rtt_level_start: 0,
     rtt_num_start: 255,
     algo: Algo::Sha512,

@@ -15,10 +15,7 @@ pub record HasLargestPool (c d : Config) : Type 0 where
   pub s2sz : d.s2sz ≡ c.s2sz
   pub sve : d.sve ≡ c.sve
   pub pmu : d.pmu ≡ c.pmu
-  pub sve_vl : d.sve_vl ≡ c.sve_vl
-  pub num_bps : d.num_bps ≡ c.num_bps
-  pub num_wps : d.num_wps ≡ c.num_wps
-  pub pmu_num_ctrs : d.pmu_num_ctrs ≡ c.pmu_num_ctrs
+  pub numbers : d.numbers ≡ c.numbers
   pub rpv : d.rpv ≡ c.rpv
   pub block_level : d.block_level ≡ c.block_level
   pub num_aux : d.num_aux ≡ c.num_aux

@@ -1,6 +1,7 @@
 -- A worked list of commands, this project's choice: a realm with IPAs of 40 bits, its two start tables at 0x800000000, 2 GiB
 -- of RAM from 0x40000000 on as two entries of level 1, and a page of data that is not measured.
 use Rattle.std.specs.Prelude.{List, [], ◌∷◌, ◌++◌, None}
+use Rattle.rim_desc.specs.declared.numbers.TheConstants.{NO_NUMBERS}
 use Rattle.rim_desc.specs.Page.{zeros}
 use Rattle.rim_desc.specs.Part.{Part, Realm, Ripas, Data}
 use Rattle.rim_desc.specs.Realm.{realm_page_of}
@@ -13,10 +14,7 @@ abbrev pub worked_params : RealmParams
 worked_params = record {
   flags = 0;
   s2sz = 40;
-  sve_vl = 0;
-  num_bps = 0;
-  num_wps = 0;
-  pmu_num_ctrs = 0;
+  numbers = NO_NUMBERS;
   rtt_level_start = 1;
   rtt_num_start = 2;
   algo = Sha256;

@@ -1,7 +1,7 @@
 //! Whole lists of commands. The measurements are those of Python's hashlib over pages and descriptors
 //! that were laid out by hand.
 use crate::checks::{check_answer, check_owner, check_owner_count, check_rim, take_all};
-use rim_desc::{Algo, Command, Measurement, RealmParams, RecParams};
+use rim_desc::{Algo, Command, Measurement, NO_NUMBERS, RealmNumbers, RealmParams, RecParams};
 use rmm_model::{Kind, Refused};
 use rmm_monitor::Monitor;
 use std::alloc::Global;
@@ -34,10 +34,7 @@ const MIXED: [u8; 64] = [
 pub const PARAMS: RealmParams = RealmParams {
     flags: 0,
     s2sz: 40,
-    sve_vl: 0,
-    num_bps: 0,
-    num_wps: 0,
-    pmu_num_ctrs: 0,
+    numbers: NO_NUMBERS,
     rtt_level_start: 1,
     rtt_num_start: 2,
     algo: Algo::Sha256,
@@ -183,10 +180,13 @@ fn granules_have_one_owner(rt: HostRuntime) {
 const MIXED_PARAMS: RealmParams = RealmParams {
     flags: 6,
     s2sz: 33,
-    sve_vl: 1,
-    num_bps: 2,
-    num_wps: 3,
-    pmu_num_ctrs: 4,
+    numbers: RealmNumbers {
+        sve_vl: 1,
+        num_bps: 2,
+        num_wps: 3,
+        pmu_num_ctrs: 4,
+        ..NO_NUMBERS
+    },
     rtt_level_start: 2,
     rtt_num_start: 8,
     algo: Algo::Sha512,

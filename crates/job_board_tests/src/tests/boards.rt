@@ -12,7 +12,7 @@ use page_jobs::{Blob, Page, PageKey, Table};
 use page_jobs_tests::distinct_pages;
 use refusal::NoMemory;
 use rim_chain::{LaunchPlan, Link};
-use rim_desc::{Algo, RealmParams, Source};
+use rim_desc::{Algo, NO_NUMBERS, RealmParams, Source};
 use std::alloc::Global;
 use std::marker::Brand;
 use std::process::Abort;
@@ -63,10 +63,7 @@ fn pages_of(alloc: Global, count: usize) -> Result<Vec<Page<'static>>, NoMemory>
 const REALM: RealmParams = RealmParams {
     flags: 0,
     s2sz: 33,
-    sve_vl: 0,
-    num_bps: 0,
-    num_wps: 0,
-    pmu_num_ctrs: 0,
+    numbers: NO_NUMBERS,
     rtt_level_start: 2,
     rtt_num_start: 1,
     algo: Algo::Sha256,

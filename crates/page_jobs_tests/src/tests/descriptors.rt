@@ -1,8 +1,8 @@
 //! Values from outside: pages and descriptors laid out by hand in Python, their digests by its hashlib.
 use super::check;
 use rim_desc::{
-    Algo, Measurement, RealmParams, RecParams, data_descriptor, extend, hash, push_digits,
-    realm_page, rec_descriptor, rec_mpidr, rec_page, ripas_descriptor,
+    Algo, Measurement, NO_NUMBERS, RealmNumbers, RealmParams, RecParams, data_descriptor, extend,
+    hash, push_digits, realm_page, rec_descriptor, rec_mpidr, rec_page, ripas_descriptor,
 };
 use std::process::Abort;
 use std::test::Fail;
@@ -10,10 +10,7 @@ use std::test::Fail;
 const SMALLEST: RealmParams = RealmParams {
     flags: 0,
     s2sz: 33,
-    sve_vl: 0,
-    num_bps: 0,
-    num_wps: 0,
-    pmu_num_ctrs: 0,
+    numbers: NO_NUMBERS,
     rtt_level_start: 2,
     rtt_num_start: 1,
     algo: Algo::Sha256,
@@ -29,10 +26,13 @@ const SMALLEST_512: RealmParams = RealmParams {
 const FULL: RealmParams = RealmParams {
     flags: 6,
     s2sz: 48,
-    sve_vl: 3,
-    num_bps: 5,
-    num_wps: 9,
-    pmu_num_ctrs: 31,
+    numbers: RealmNumbers {
+        sve_vl: 3,
+        num_bps: 5,
+        num_wps: 9,
+        pmu_num_ctrs: 31,
+        ..NO_NUMBERS
+    },
     rtt_level_start: 0,
     rtt_num_start: 1,
     algo: Algo::Sha512,

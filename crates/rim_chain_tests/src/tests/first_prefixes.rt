@@ -2,7 +2,7 @@
 use super::{LEAD, check, filled_row, item, plan_of, put, realm};
 use page_jobs::{Blob, Table};
 use rim_chain::{LaunchPlan, Prefix, SharedPrefixes, chain, first_prefixes};
-use rim_desc::{Algo, Lanes, RealmParams, Source};
+use rim_desc::{Algo, Lanes, NO_NUMBERS, RealmNumbers, RealmParams, Source};
 use std::alloc::Global;
 use std::process::Abort;
 
@@ -32,7 +32,10 @@ const LAUNCHES: [Launch; 14] = [
 fn own_plan(rt: &impl Abort, alloc: Global, launch: &Launch) -> LaunchPlan {
     let (algo, num_bps, count, _, _) = *launch;
     let params = RealmParams {
-        num_bps,
+        numbers: RealmNumbers {
+            num_bps,
+            ..NO_NUMBERS
+        },
         ..realm(algo)
     };
     plan_of(rt, alloc, params, (0, count), 2, &[num_bps])

@@ -11,8 +11,8 @@ invariant_of-result c =
     let d = view c.args.table.now in
     record {
       width = ap (is_within 32 48) c.byte.ensures ∙ number_within 32 48 32 (get (codes "s2sz") d) refl;
-      level = subst (λ n. n ≤ 3) (sym c.byte-6.ensures) (number_to 0 3 2 (get (codes "block_level") d) refl);
-      aux = subst (λ n. n ≤ 16) (sym c.byte-7.ensures) (number_to 0 16 0 (get (codes "num_aux") d) refl);
+      level = subst (λ n. n ≤ 3) (sym c.byte-2.ensures) (number_to 0 3 2 (get (codes "block_level") d) refl);
+      aux = subst (λ n. n ≤ 16) (sym c.byte-3.ensures) (number_to 0 16 0 (get (codes "num_aux") d) refl);
       pool_aligned = subst (λ n. n % 65536 ≡ 0) (sym c.pool_base.ensures) (base_aligned (get (codes "pool_base") d));
       pool_low = subst (λ n. n < 2 ^ 48) (sym c.pool_base.ensures) (base_low (get (codes "pool_base") d));
       pool_fits = subst (λ n. (1 ≤ n) × (n ≤ 16777216)) (sym c.number.ensures)
@@ -22,6 +22,6 @@ invariant_of-result c =
 pub returns : goal.returns
 unfolding config_of
 returns c =
-    same-config _ _ c.algorithm.ensures c.byte.ensures c.truth.ensures c.truth-2.ensures c.byte-2.ensures c.byte-3.ensures c.byte-4.ensures c.byte-5.ensures
-    c.digits.ensures c.byte-6.ensures
-    c.byte-7.ensures c.rec_rule.ensures c.pool_base.ensures c.number.ensures
+    same-config _ _ c.algorithm.ensures c.byte.ensures c.truth.ensures c.truth-2.ensures c.read_numbers.ensures
+    c.digits.ensures c.byte-2.ensures
+    c.byte-3.ensures c.rec_rule.ensures c.pool_base.ensures c.number.ensures

@@ -13,8 +13,8 @@ returns c =
     read_named (codes "realm_create") _ _ c.new-words.result c.bytes.new.self (RealmCreate _ _) c.end.result refl
     c.new-words.ensures c.end.ensures
     (λ left. c.address-rd.ensures.found _ (c.address.ensures.found _ (c.number.ensures.found _ (c.number-2.ensures.found _
-    (c.number-3.ensures.found _ (c.algo.ensures.found _ (c.address-2.ensures.found _ (c.number-4.ensures.found _
-    (c.number-5.ensures.found _ (c.number-6.ensures.found _ (c.number-7.ensures.found _ (c.bytes.ensures.found _ left))))))))))))
+    (c.number-3.ensures.found _ (c.algo.ensures.found _ (c.address-2.ensures.found _ (c.numbers.ensures.found _
+    (c.bytes.ensures.found _ left)))))))))
     only
   where
     only : (other : Command) → IsTyped other → codes "realm_create" ++ c.args.rest.now ≡ line_from (words_of other) → AreLeft c.bytes.new.self []
@@ -27,9 +27,6 @@ returns c =
         let left = c.number-3.ensures.only p.s2sz _ fit.s2sz left in
         let left = c.algo.ensures.only p.algo _ tt left in
         let left = c.address-2.ensures.only p.flags _ fit.flags left in
-        let left = c.number-4.ensures.only p.sve_vl _ fit.sve_vl left in
-        let left = c.number-5.ensures.only p.num_bps _ fit.num_bps left in
-        let left = c.number-6.ensures.only p.num_wps _ fit.num_wps left in
-        let left = c.number-7.ensures.only p.pmu_num_ctrs _ fit.pmu_num_ctrs left in
+        let left = c.numbers.ensures.only p.numbers _ fit.numbers left in
         c.bytes.ensures.only p.rpv _ fit.rpv left
     only other fit same = other_name _ _ same refl

@@ -1,0 +1,42 @@
+-- The numbers of a realm's parameters: DEN0137, RmiRealmParams. That a manifest calls them by the standard's names, and a listing has
+-- them in the order of their offsets, is this project's choice.
+use Rattle.std.specs.Prelude.{ℕ, List, [], ◌∷◌, codes, map, slice_index}
+use Rattle.rim_desc.specs.Page.{Field, byte}
+use Rattle.rim_desc.specs.declared.numbers.RealmNumbers.{RealmNumbers}
+
+-- a number of one byte that is measured, and is 0 where it is not given
+pub record Number : Type 0 where
+  pub name : List ℕ
+  -- where it is in the page
+  pub offset : ℕ
+  -- the highest value that may be given
+  pub most : ℕ
+  pub value : RealmNumbers → ℕ
+
+abbrev pub number : List ℕ → ℕ → ℕ → (RealmNumbers → ℕ) → Number
+number name offset most value = record { name = name; offset = offset; most = most; value = value }
+
+-- the numbers of the monitor of DEN0137 1.0
+abbrev pub rmm_1_0 : List Number
+rmm_1_0 =
+    number (codes "sve_vl") 0x10 255 (λ n. n.sve_vl)
+    ∷ number (codes "num_bps") 0x18 255 (λ n. n.num_bps)
+    ∷ number (codes "num_wps") 0x20 255 (λ n. n.num_wps)
+    ∷ number (codes "pmu_num_ctrs") 0x28 255 (λ n. n.pmu_num_ctrs) ∷ []
+
+-- the numbers, in the order of their rows
+abbrev pub in_order : RealmNumbers → List ℕ
+in_order numbers = map (λ row. row.value numbers) rmm_1_0
+
+-- each number in its place of the page
+abbrev pub number_fields : RealmNumbers → List Field
+number_fields numbers = map (λ row. byte row.offset (row.value numbers)) rmm_1_0
+
+-- the numbers that are these, in the order of their rows
+abbrev pub numbers_from : List ℕ → RealmNumbers
+numbers_from ns = record {
+  sve_vl = slice_index ns 0;
+  num_bps = slice_index ns 1;
+  num_wps = slice_index ns 2;
+  pmu_num_ctrs = slice_index ns 3;
+}
