@@ -26,9 +26,8 @@ item_keys algo (Some item) = source_keys algo item item.source
 
 -- those of what a step names
 abbrev pub step_keys : LaunchData → PlacedData → Step → List PageKey
-step_keys l p (step.Ram n) = []
 step_keys l p (step.Item n) = item_keys l.config.algo (slice_get p.items n)
-step_keys l p (step.Rec n) = []
+step_keys l p _ = []
 
 -- the keys of a launch's measured pages, in the order in which they are measured
 abbrev pub measured_keys : LaunchData → PlacedData → List PageKey

@@ -50,8 +50,7 @@ granule pool n = pool + PAGE_SIZE * n
 
 abbrev pub delegates : Entry → Bool
 delegates (Whole (Delegate granule)) = true
-delegates (Whole c) = false
-delegates (Page granule ipa item page) = false
+delegates _ = false
 
 -- how many granules some entries take from the pool: each is delegated once
 abbrev pub delegated : List Entry → ℕ

@@ -13,16 +13,13 @@ pub record Number : Type 0 where
   pub most : ℕ
   pub value : RealmNumbers → ℕ
 
-abbrev pub number : List ℕ → ℕ → ℕ → (RealmNumbers → ℕ) → Number
-number name offset most value = record { name = name; offset = offset; most = most; value = value }
-
 -- the numbers of the monitor of DEN0137 1.0
 abbrev pub rmm_1_0 : List Number
 rmm_1_0 =
-    number (codes "sve_vl") 0x10 255 (λ n. n.sve_vl)
-    ∷ number (codes "num_bps") 0x18 255 (λ n. n.num_bps)
-    ∷ number (codes "num_wps") 0x20 255 (λ n. n.num_wps)
-    ∷ number (codes "pmu_num_ctrs") 0x28 255 (λ n. n.pmu_num_ctrs) ∷ []
+    record { name = codes "sve_vl"; offset = 0x10; most = 255; value = λ n. n.sve_vl }
+    ∷ record { name = codes "num_bps"; offset = 0x18; most = 255; value = λ n. n.num_bps }
+    ∷ record { name = codes "num_wps"; offset = 0x20; most = 255; value = λ n. n.num_wps }
+    ∷ record { name = codes "pmu_num_ctrs"; offset = 0x28; most = 255; value = λ n. n.pmu_num_ctrs } ∷ []
 
 -- the numbers, in the order of their rows
 abbrev pub in_order : RealmNumbers → List ℕ

@@ -12,7 +12,7 @@ use Rattle.std.specs.List.{list_all}
 use Rattle.rim_desc.specs.declared.command.Command.{Command}
 use Rattle.rim_desc.specs.declared.command.Command.TheVariants.{Delegate, RealmCreate, RttCreate, InitRipas, DataCreate, DataCreateUnknown, RecCreate, Activate}
 use Rattle.rim_desc.specs.declared.measurement.Algo.{Algo}
-use Rattle.rim_desc.specs.declared.measurement.Algo.TheVariants.{Sha256, Sha512}
+use Rattle.rim_desc.specs.declared.measurement.Algo.TheVariants.{Sha256}
 use Rattle.rim_desc.specs.declared.measurement.Measurement.{Measurement}
 use Rattle.rim_desc.specs.declared.realm.RealmParams.{RealmParams}
 use Rattle.rim_desc.specs.declared.rule.RecRule.{RecRule}
@@ -49,8 +49,7 @@ is_bad_realm p = has_other_flags p.flags || not (is_width p.s2sz)
 -- a SHA-256 measurement with a byte that is not zero past the first 32
 abbrev pub is_bad_content : Algo → Option Measurement → Bool
 is_bad_content Sha256 (Some content) = not (list_all (λ byte. byte == 0) (drop 32 content.bytes))
-is_bad_content Sha256 None = false
-is_bad_content Sha512 content = false
+is_bad_content _ _ = false
 
 -- the number in some bits of a word, from a low bit on. DEN0137, RmiRecMpidr, for the fields below
 abbrev pub field : ℕ → ℕ → ℕ → ℕ

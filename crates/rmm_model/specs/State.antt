@@ -8,7 +8,7 @@ use Rattle.rim_desc.specs.declared.realm.RealmParams.{RealmParams}
 use Rattle.rim_desc.specs.declared.rule.RecRule.{RecRule}
 use Rattle.rmm_model.specs.declared.outcome.Kind.{Kind}
 use Rattle.rmm_model.specs.declared.outcome.Phase.{Phase}
-use Rattle.rmm_model.specs.declared.outcome.Phase.TheVariants.{Empty, New, Active}
+use Rattle.rmm_model.specs.declared.outcome.Phase.TheVariants.{Empty, New}
 use Rattle.rmm_model.specs.Space.{Space, empty_space}
 
 pub record State : Type 0 where
@@ -33,13 +33,11 @@ empty_state num_aux rule = record { phase = Empty; params = None; num_aux = num_
 
 abbrev pub is_empty : Phase → Bool
 is_empty Empty = true
-is_empty New = false
-is_empty Active = false
+is_empty _ = false
 
 abbrev pub is_new : Phase → Bool
-is_new Empty = false
 is_new New = true
-is_new Active = false
+is_new _ = false
 
 -- the hash algorithm of the realm. Without a realm nothing is hashed
 abbrev pub algo_of : Option RealmParams → Algo

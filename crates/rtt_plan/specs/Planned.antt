@@ -29,11 +29,8 @@ least_level_of s2sz block_level = max block_level (start_level s2sz)
 
 -- nothing was planned
 abbrev pub nothing_planned : ℕ → ℕ → Planned
-nothing_planned s2sz block_level = record {
-  space = empty_space (start_level s2sz) (protected_end s2sz);
-  least_level = least_level_of s2sz block_level;
-  entries = 0;
-}
+nothing_planned s2sz block_level =
+    record { space = empty_space (start_level s2sz) (protected_end s2sz); least_level = least_level_of s2sz block_level; entries = 0 }
 
 -- how many entries a region has
 abbrev pub entry_count : Planned → ℕ → ℕ → ℕ

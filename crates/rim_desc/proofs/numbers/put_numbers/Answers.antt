@@ -1,13 +1,13 @@
 use Rattle.std.proofs.Common.{arith, length, ◌≡◌, [], ◌∷◌, ℕ, ◌+◌, ◌<◌, get_or, drop, map, ap, sym, ◌∙◌}
 use Rattle.std.proofs.lemmas.List.{at_drop_more, get_or-map}
 use Rattle.rim_desc.specs.Page.{Field, byte, with_fields, with_part}
-use Rattle.rim_desc.specs.Numbers.{Number, number, in_order, number_fields, rmm_1_0}
+use Rattle.rim_desc.specs.Numbers.{Number, in_order, number_fields, rmm_1_0}
 use Rattle.rim_desc.specs.declared.numbers.NumberRow.{NumberRow}
 use Rattle.rim_desc.specs.declared.numbers.RealmNumbers.{RealmNumbers}
 use Rattle.rim_desc.proofs.numbers.put_numbers.Goals as goal
 
 no_row : Number
-no_row = number [] 0 0 (λ n. 0)
+no_row = record { name = []; offset = 0; most = 0; value = λ n. 0 }
 
 offset_at : ℕ → ℕ
 offset_at i = get_or (map (λ r. r.offset) rmm_1_0) i 0

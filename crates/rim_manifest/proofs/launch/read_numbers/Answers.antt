@@ -2,14 +2,14 @@ use Rattle.std.proofs.Common.{◌≡◌, ◌<◌, ◌+◌, ◌++◌, ℕ, List, 
 use Rattle.std.proofs.lemmas.List.{get_or-map, length-set, take_more, take_more_set}
 use Rattle.toml.specs.Data.{Data, get}
 use Rattle.toml.specs.View.{view}
-use Rattle.rim_desc.specs.Numbers.{Number, number, rmm_1_0}
+use Rattle.rim_desc.specs.Numbers.{Number, rmm_1_0}
 use Rattle.rim_desc.specs.declared.numbers.NumberRow.{NumberRow}
 use Rattle.rim_rules.specs.Values.{number_in}
 use Rattle.rim_manifest.specs.Launches.{number_of}
 use Rattle.rim_manifest.proofs.launch.read_numbers.Goals as goal
 
 no_row : Number
-no_row = number [] 0 0 (λ n. 0)
+no_row = record { name = []; offset = 0; most = 0; value = λ n. 0 }
 
 -- what is read of a row, by the name and the highest value at its place
 number_at : (d : Data) (i : ℕ) → i < length rmm_1_0
