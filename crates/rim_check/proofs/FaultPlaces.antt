@@ -7,6 +7,7 @@ use Rattle.rim_manifest.specs.declared.finding.Finding.{Finding}
 use Rattle.rim_check.specs.Explained.{fault_front, fault_said}
 use Rattle.rim_check.specs.Fronts.{place_text, spot_text}
 use Rattle.rim_check.specs.inside.Listed.{located}
+use Rattle.rim_line.specs.declared.remark.Remark.{Remark}
 use Rattle.rim_line.specs.Lines.{AddsLine, IsKnown}
 use Rattle.rim_spot.specs.declared.spot.Spot.{Spot}
 
@@ -22,8 +23,8 @@ pub known-front : (place : Option (List ℕ)) (path spot bytes text : List ℕ) 
 known-front None path spot bytes text same is = tt
 known-front (Some known) path spot bytes text same is = subst (λ (own : List ℕ). IsKnown (Some (path ++ (spot ++ own))) text) same is
 
--- a line that is made of these parts is the line of a fault
-pub says-fault : (path : List ℕ) (ms : Members) (f : Finding) (spot : Option Spot) (bytes shown word before after old new : List ℕ)
+-- a remark that is made of these parts is that of a fault
+pub says-fault : (path : List ℕ) (ms : Members) (f : Finding) (spot : Option Spot) (bytes shown word before after : List ℕ) (old new : List Remark)
     → IfSome (place_text ms f.place f.subject) (λ known. bytes ≡ known) → shown ≡ bytes → word ≡ kind_of f.fault
     → IsKnown (Some (path ++ (spot_text spot ++ shown))) before
     → ((front detail : Option (List ℕ)) → IsKnown front before → IsKnown detail after

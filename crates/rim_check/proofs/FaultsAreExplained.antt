@@ -11,29 +11,30 @@ use Rattle.rim_manifest.specs.Manifest.{Answer, answer_of, document_of, manifest
 use Rattle.rim_manifest.specs.inside.Kept.{faults_in}
 use Rattle.rim_check.specs.Explained.{Explains, IsCheckOf, Located, fault_said, others_said}
 use Rattle.rim_check.specs.inside.Listed.{ShowsFindings, ShowsList, faults_at, no_document}
+use Rattle.rim_line.specs.declared.remark.Remark.{Remark}
 use Rattle.rim_line.specs.Lines.{AddsAll, Saying, SayInTurn}
 use Rattle.rim_check.specs.declared.manifest.ManifestCheck.{ManifestCheck}
 use Rattle.rim_spot.specs.declared.spot.Spot.{Spot}
 
--- a text that is no document is explained by one line
-pub explains-syntax : (path bytes : List ℕ) (spot : Option Spot) (text : List ℕ) → document_of bytes ≡ None
-    → SayInTurn (fault_said path None (no_document spot) ∷ []) text → Explains path bytes Syntax text
+-- a text that is no document is explained by one remark
+pub explains-syntax : (path bytes : List ℕ) (spot : Option Spot) (remarks : List Remark) → document_of bytes ≡ None
+    → SayInTurn (fault_said path None (no_document spot) ∷ []) remarks → Explains path bytes Syntax remarks
 unfolding lower
-explains-syntax path bytes spot text none says =
+explains-syntax path bytes spot remarks none says =
     record {
       faults = no_document spot ∷ [];
       lowest = refl;
       more = 0;
       counted = rw none (refl, refl);
-      lines = subst (λ (document : Option Members). SayInTurn (fault_said path document (no_document spot) ∷ []) text) (sym none) says;
+      lines = subst (λ (document : Option Members). SayInTurn (fault_said path document (no_document spot) ∷ []) remarks) (sym none) says;
     }
 
 counted-same : (found : List Finding) (shown : List Located) → faults_at shown ≡ faults_in found → length shown ≡ length found
 counted-same found shown are =
     sym (length-map shown (λ (l : Located). l.fault)) ∙ ap (λ (fs : List ManifestFault). length fs) are ∙ length-map found (λ (f : Finding). f.fault)
 
--- faults that were found are listed by a line for each fault of an excerpt with the same lowest, and how many others there are
-pub lists-more : (path : List ℕ) (ms : Members) (listed shown : List Finding) (others more : ℕ) (old new : List ℕ)
+-- faults that were found are listed by a remark for each fault of an excerpt with the same lowest, and how many others there are
+pub lists-more : (path : List ℕ) (ms : Members) (listed shown : List Finding) (others more : ℕ) (old new : List Remark)
     → lowest (faults_in shown) ≡ lowest (faults_in listed) → others ≤ more → length shown + more ≤ length listed + others
     → ShowsFindings path ms shown old → AddsAll (others_said more) old new → ShowsList path ms (faults_in listed) others new
 lists-more path ms listed shown others more old new same beside within shows adds =
@@ -48,22 +49,22 @@ lists-more path ms listed shown others more old new same beside within shows add
       lines = adds (map (fault_said path (Some ms)) shows.faults) shows.lines;
     }
 
-pub lists-all : (path : List ℕ) (ms : Members) (listed shown : List Finding) (others more : ℕ) (text : List ℕ)
+pub lists-all : (path : List ℕ) (ms : Members) (listed shown : List Finding) (others more : ℕ) (remarks : List Remark)
     → lowest (faults_in shown) ≡ lowest (faults_in listed) → others ≤ more → length shown + more ≤ length listed + others → more ≤ 0
-    → ShowsFindings path ms shown text → ShowsList path ms (faults_in listed) others text
-lists-all path ms listed shown others more text same beside within none shows =
-    lists-more path ms listed shown others 0 text text same (omega (arith, beside, none)) (omega (arith, within)) shows
-    (λ (said : List Saying) (says : SayInTurn said text). subst (λ (ss : List Saying). SayInTurn ss text) (sym (append-nil said)) says)
+    → ShowsFindings path ms shown remarks → ShowsList path ms (faults_in listed) others remarks
+lists-all path ms listed shown others more remarks same beside within none shows =
+    lists-more path ms listed shown others 0 remarks remarks same (omega (arith, beside, none)) (omega (arith, within)) shows
+    (λ (said : List Saying) (says : SayInTurn said remarks). subst (λ (ss : List Saying). SayInTurn ss remarks) (sym (append-nil said)) says)
 
 -- a document is explained by the list of what was found in it
-pub explains-list : (path bytes : List ℕ) (ms : Members) (listed : List ManifestFault) (others : ℕ) (text : List ℕ) (found : AreFound ms listed others)
-    → document_of bytes ≡ Some ms → ShowsList path ms listed others text → Explains path bytes found.fault text
-explains-list path bytes ms listed others text found document shows = record {
+pub explains-list : (path bytes : List ℕ) (ms : Members) (listed : List ManifestFault) (others : ℕ) (remarks : List Remark) (found : AreFound ms listed others)
+    → document_of bytes ≡ Some ms → ShowsList path ms listed others remarks → Explains path bytes found.fault remarks
+explains-list path bytes ms listed others remarks found document shows = record {
   faults = shows.faults;
   lowest = shows.least ∙ found.lowest;
   more = shows.more;
   counted = rw document (listed, others, found, shows.beside, shows.within);
-  lines = subst (λ (d : Option Members). SayInTurn (map (fault_said path d) shows.faults ++ others_said shows.more) text) (sym document) shows.lines;
+  lines = subst (λ (d : Option Members). SayInTurn (map (fault_said path d) shows.faults ++ others_said shows.more) remarks) (sym document) shows.lines;
 }
 
 -- a check of what a document reads as is one of the manifest

@@ -1,4 +1,4 @@
--- The lines of faults, one after another.
+-- The remarks on faults, one after another.
 use Rattle.std.proofs.Common.{◌≡◌, ◌∙◌, ◌+◌, ◌<◌, ◌≤◌, ℕ, List, [], ◌∷◌, ◌++◌, Option, Some, ap, arith, get_or, length, map, refl, subst, suc, sym, take}
 use Rattle.std.proofs.Math.Seq.{take-suc}
 use Rattle.std.proofs.lemmas.List.{map-append, take_all}
@@ -8,6 +8,7 @@ use Rattle.rim_manifest.specs.declared.finding.Finding.{Finding}
 use Rattle.rim_manifest.specs.inside.Kept.{faults_in}
 use Rattle.rim_check.specs.Explained.{Located, fault_said}
 use Rattle.rim_check.specs.inside.Listed.{ShowsFindings, faults_at, located}
+use Rattle.rim_line.specs.declared.remark.Remark.{Remark}
 use Rattle.rim_line.specs.Lines.{AddsLine, Saying, SayInTurn}
 use Rattle.rim_spot.specs.declared.spot.Spot.{Spot}
 
@@ -16,7 +17,7 @@ faults-next [] f = refl
 faults-next (g ∷ found) f = ap (λ (fs : List ManifestFault). g.fault ∷ fs) (faults-next found f)
 
 -- one fault more
-shows-next : (path : List ℕ) (ms : Members) (found : List Finding) (f : Finding) (spot : Option Spot) (old new : List ℕ)
+shows-next : (path : List ℕ) (ms : Members) (found : List Finding) (f : Finding) (spot : Option Spot) (old new : List Remark)
     → AddsLine (fault_said path (Some ms) (located f spot)) old new → ShowsFindings path ms found old → ShowsFindings path ms (found ++ f ∷ []) new
 shows-next path ms found f spot old new adds shows =
     let says : Located → Saying = fault_said path (Some ms) in
@@ -28,7 +29,7 @@ shows-next path ms found f spot old new adds shows =
     }
 
 -- in a loop over what was found, of which this is the one with number i
-pub shown-at : (path : List ℕ) (ms : Members) (found : List Finding) (i : ℕ) (d : Finding) (spot : Option Spot) (old new : List ℕ) → i < length found
+pub shown-at : (path : List ℕ) (ms : Members) (found : List Finding) (i : ℕ) (d : Finding) (spot : Option Spot) (old new : List Remark) → i < length found
     → AddsLine (fault_said path (Some ms) (located (get_or found i d) spot)) old new → ShowsFindings path ms (take i found) old
     → ShowsFindings path ms (take (i + 1) found) new
 shown-at path ms found i d spot old new inside adds shows =
@@ -37,6 +38,6 @@ shown-at path ms found i d spot old new inside adds shows =
     subst (λ (fs : List Finding). ShowsFindings path ms fs new) (sym front) (shows-next path ms (take i found) (get_or found i d) spot old new adds shows)
 
 -- all is said
-pub all-shown : (path : List ℕ) (ms : Members) (found : List Finding) (i : ℕ) (text : List ℕ) → length found ≤ i → ShowsFindings path ms (take i found) text
-    → ShowsFindings path ms found text
-all-shown path ms found i text past shows = subst (λ (fs : List Finding). ShowsFindings path ms fs text) (take_all i found past) shows
+pub all-shown : (path : List ℕ) (ms : Members) (found : List Finding) (i : ℕ) (remarks : List Remark) → length found ≤ i → ShowsFindings path ms (take i found) remarks
+    → ShowsFindings path ms found remarks
+all-shown path ms found i remarks past shows = subst (λ (fs : List Finding). ShowsFindings path ms fs remarks) (take_all i found past) shows

@@ -15,6 +15,7 @@ use Rattle.rim_accepted.specs.declared.audit_fault.AuditFault.{AuditFault}
 use Rattle.rim_accepted.specs.declared.reason.LaunchReason.{LaunchReason}
 use Rattle.rim_pages.specs.Pages.{keys_at}
 use Rattle.rim_check.specs.Explained.{refusal_said}
+use Rattle.rim_line.specs.declared.remark.Remark.{Remark}
 use Rattle.rim_line.specs.Lines.{AddsLine}
 use Rattle.rim_check.specs.declared.found.Found.{Found}
 use Rattle.rim_check.specs.inside.Found.{AddsFound, AddsNumber, AreWarned, numbers_of}
@@ -36,7 +37,7 @@ accepted-found : (files : List (List ℕ)) (l : NamedData) (a : AcceptedLaunch) 
     → new.pages ≡ old.pages ++ keys_at a.named.now.launch (Ok a.placed)
     → AddsNumber a.named.now.launch.number (numbers_of old.warnings) (numbers_of new.warnings) → AddsFound files l old new
 accepted-found files l a old new accepted own same pages warned = record {
-  said = subst (λ (text : List ℕ). AddsSaid files l old.refusals.items text) (sym same.0)
+  said = subst (λ (remarks : List Remark). AddsSaid files l old.refusals.items remarks) (sym same.0)
       (says-nothing files l a.placed old.refusals.items accepted);
   refused = same.1 ∙ or-false old.has_refused ∙ ap (λ (r : Result PlacedData AuditFault). old.has_refused || is_err r) (sym accepted);
   pages = pages ∙ ap (λ (x : NamedData). old.pages ++ keys_at x.launch (Ok a.placed)) own
@@ -59,7 +60,7 @@ no-keys : (l : LaunchData) (r : Result PlacedData AuditFault) → is_err r ≡ t
 no-keys l (Ok p) e = absurd cc
 no-keys l (Err fault) e = refl
 
--- one that is refused adds its line
+-- one that is refused adds its remark
 pub refused-found : (files : List (List ℕ)) (l : NamedData) (why : LaunchReason) (hint : List ℕ) (old new : Found)
     → IsRefusedFor l.launch files why → AddsLine (refusal_said l why hint) old.refusals.items new.refusals.items
     → new.has_refused ≡ true → new.pages ≡ old.pages → new.warnings ≡ old.warnings → AddsFound files l old new

@@ -16,19 +16,20 @@ use Rattle.page_jobs.specs.Key.{rising_keys}
 use Rattle.page_jobs.specs.declared.page.PageKey.{PageKey}
 use Rattle.rim_pages.specs.Pages.{launch_keys, page_keys}
 use Rattle.rim_check.specs.Explained.{AreSaidOf, IsLaunchCheck, IsSaidOf, fault_of, pages_said}
+use Rattle.rim_line.specs.declared.remark.Remark.{Remark}
 use Rattle.rim_line.specs.Lines.{AddsAll, Saying, SayInTurn}
 use Rattle.rim_check.specs.Warned.{ShowsWarnings}
 use Rattle.rim_check.specs.declared.found.Found.{Found}
 use Rattle.rim_check.specs.declared.found.LaunchCheck.{LaunchCheck}
 use Rattle.rim_check.specs.inside.Found.{AddsFound, AreWarned, numbers_of}
 
--- a text is one line for each launch that is refused
-pub record ShowsRefusals (files : List (List ℕ)) (ls : List NamedData) (text : List ℕ) : Type 0 where
+-- there is one remark for each launch that is refused
+pub record ShowsRefusals (files : List (List ℕ)) (ls : List NamedData) (remarks : List Remark) : Type 0 where
   pub said : List Saying
   pub are : AreSaidOf files ls said
-  pub lines : SayInTurn said text
+  pub lines : SayInTurn said remarks
 
--- what is found of the launches before one: their lines, whether one of them is refused, their pages and their warnings
+-- what is found of the launches before one: their remarks, whether one of them is refused, their pages and their warnings
 pub record AreChecked (files : List (List ℕ)) (all ls : List NamedData) (found : Found) : Type 0 where
   pub shows : ShowsRefusals files ls found.refusals.items
   pub refused : found.has_refused ≡ has_refused files ls

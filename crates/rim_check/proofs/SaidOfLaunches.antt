@@ -14,11 +14,12 @@ use Rattle.rim_accepted.specs.declared.reason.LaunchReason.{LaunchReason}
 use Rattle.rim_accepted.proofs.RefusedLaunches.{same_refusal}
 use Rattle.rim_check.specs.Details.{reason_detail}
 use Rattle.rim_check.specs.Explained.{launch_front, refusal_said}
+use Rattle.rim_line.specs.declared.remark.Remark.{Remark}
 use Rattle.rim_line.specs.Lines.{AddsLine, IsKnown, Saying, SayInTurn}
 use Rattle.rim_check.specs.inside.Refused.{AddsSaid}
 
--- a line that is made of these parts is the line of a launch's refusal
-pub says-refusal : (l : NamedData) (why : LaunchReason) (hint name kind before after old new : List ℕ) (fault : AuditFault)
+-- a remark that is made of these parts is that of a launch's refusal
+pub says-refusal : (l : NamedData) (why : LaunchReason) (hint name kind before after : List ℕ) (old new : List Remark) (fault : AuditFault)
     (config : Config)
     → name ≡ l.name → config ≡ l.launch.config → fault ≡ audit_fault_of why → kind ≡ audit_kind_of fault
     → IsKnown (Some (launch_front name)) before → IsKnown (Some ((codes ": " ++ reason_detail (item_name l) config why) ++ hint)) after
@@ -47,15 +48,15 @@ not-refused (Ok rim) off = refl
 not-refused (Err fault) off = absurd cc
 
 -- nothing is said of a launch that is accepted
-pub says-nothing : (files : List (List ℕ)) (l : NamedData) (p : PlacedData) (text : List ℕ)
-    → accepted_of l.launch files ≡ Ok p → AddsSaid files l text text
-says-nothing files l p text accepted = record {
+pub says-nothing : (files : List (List ℕ)) (l : NamedData) (p : PlacedData) (remarks : List Remark)
+    → accepted_of l.launch files ≡ Ok p → AddsSaid files l remarks remarks
+says-nothing files l p remarks accepted = record {
   own = [];
   are = inl (not-refused (rim_for l.launch files) (same_refusal l.launch files ∙ ap (λ (r : Result PlacedData AuditFault). is_err r) accepted), refl);
-  adds = λ (said : List Saying) (says : SayInTurn said text). subst (λ (ss : List Saying). SayInTurn ss text) (sym (append-nil said)) says;
+  adds = λ (said : List Saying) (says : SayInTurn said remarks). subst (λ (ss : List Saying). SayInTurn ss remarks) (sym (append-nil said)) says;
 }
 
-pub says-why : (files : List (List ℕ)) (l : NamedData) (why : LaunchReason) (hint old new : List ℕ)
+pub says-why : (files : List (List ℕ)) (l : NamedData) (why : LaunchReason) (hint : List ℕ) (old new : List Remark)
     → IsRefusedFor l.launch files why → AddsLine (refusal_said l why hint) old new → AddsSaid files l old new
 says-why files l why hint old new refused adds =
     record { own = refusal_said l why hint ∷ []; are = inr (why, hint, refused, refl); adds = adds }

@@ -20,7 +20,8 @@ use Rattle.rim_pages.specs.declared.fault.StartFault.TheVariants as start
 use Rattle.rim_pages.specs.declared.different.TheConstants.{DISTINCT_LIMIT}
 use Rattle.rim_check.specs.Details.{reason_detail}
 use Rattle.rim_check.specs.Fronts.{place_text, spot_text}
-use Rattle.rim_line.specs.Lines.{AddsLine, Saying, SayInTurn}
+use Rattle.rim_line.specs.declared.remark.Remark.{Remark}
+use Rattle.rim_line.specs.Lines.{AddsLine, Saying, SayInTurn, lines_of}
 use Rattle.rim_check.specs.Warned.{ShowsWarnings}
 use Rattle.rim_check.specs.declared.found.LaunchCheck.{LaunchCheck}
 use Rattle.rim_check.specs.declared.found.ReleaseFault.{ReleaseFault}
@@ -61,18 +62,18 @@ AreCounted None count more = (count ≡ 1) × (more ≡ 0)
 AreCounted (Some ms) count more =
     (listed : List ManifestFault) × (others : ℕ) × AreFound ms listed others × (others ≤ more) × (count + more ≤ length listed + others)
 
--- the text has a line for each of some faults of the manifest with this path and these bytes, and then how many more there are; the lowest of
--- those with a line is the one that the manifest is refused with
-pub record Explains (path bytes : List ℕ) (fault : ManifestFault) (text : List ℕ) : Type 0 where
+-- there is a remark for each of some faults of the manifest with this path and these bytes, and then how many more there are; the lowest of
+-- those with a remark is the one that the manifest is refused with
+pub record Explains (path bytes : List ℕ) (fault : ManifestFault) (remarks : List Remark) : Type 0 where
   pub faults : List Located
   pub lowest : lowest (map (λ l. l.fault) faults) ≡ Some fault
   pub more : ℕ
   pub counted : AreCounted (document_of bytes) (length faults) more
-  pub lines : SayInTurn (map (fault_said path (document_of bytes)) faults ++ others_said more) text
+  pub lines : SayInTurn (map (fault_said path (document_of bytes)) faults ++ others_said more) remarks
 
 -- a manifest is explained as faulty exactly where it is refused
 abbrev pub IsCheckOf : List ℕ → List ℕ → Answer → ManifestCheck → Type 0
-IsCheckOf path bytes (Err fault) (Faulty text) = Explains path bytes fault text.items
+IsCheckOf path bytes (Err fault) (Faulty remarks) = Explains path bytes fault remarks.items
 IsCheckOf path bytes (Ok release) (Readable read) = read ≡ release
 IsCheckOf path bytes _ _ = ⊥
 
@@ -90,10 +91,16 @@ refusal_said l why hint = record {
   detail = Some ((codes ": " ++ reason_detail (item_name l) l.launch.config why) ++ hint);
 }
 
--- a text has that line more, with a hint of which nothing is known
-pub record AddsRefusal (l : NamedData) (why : LaunchReason) (old new : List ℕ) : Type 0 where
+-- there is that remark more, with a hint of which nothing is known
+pub record AddsRefusal (l : NamedData) (why : LaunchReason) (old new : List Remark) : Type 0 where
   pub hint : List ℕ
   pub adds : AddsLine (refusal_said l why hint) old new
+
+-- a text is the line of a launch that is refused for this reason
+pub record IsRefusalLine (l : NamedData) (why : LaunchReason) (line : List ℕ) : Type 0 where
+  pub remarks : List Remark
+  pub adds : AddsRefusal l why [] remarks
+  pub is : line ≡ lines_of remarks
 
 -- what is said of a launch: nothing where it is accepted, else its refusal, with a hint of which nothing is known
 abbrev pub IsSaidOf : List (List ℕ) → NamedData → List Saying → Type 0
@@ -117,11 +124,11 @@ pages_said count = if nat_lt DISTINCT_LIMIT count then record {
   detail = Some (pages_detail count);
 } ∷ [] else []
 
--- a text is one line for each launch that is refused, and then one where there are too many pages
-pub record ShowsFaults (files : List (List ℕ)) (ls : List NamedData) (text : List ℕ) : Type 0 where
+-- there is one remark for each launch that is refused, and then one where there are too many pages
+pub record ShowsFaults (files : List (List ℕ)) (ls : List NamedData) (remarks : List Remark) : Type 0 where
   pub said : List Saying
   pub are : AreSaidOf files ls said
-  pub lines : SayInTurn (said ++ pages_said (length (page_keys files ls))) text
+  pub lines : SayInTurn (said ++ pages_said (length (page_keys files ls))) remarks
 
 -- what is at fault where there are this many of these pages, and some launch is refused or none is
 abbrev pub fault_of : ℕ → Bool → Option ReleaseFault

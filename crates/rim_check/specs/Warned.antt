@@ -3,9 +3,10 @@ use Rattle.std.specs.Prelude.{◌≡◌, ℕ, List, [], ◌∷◌, ◌++◌, Som
 use Rattle.std.specs.List.{AllByRecursion, slice_get}
 use Rattle.rim_manifest.specs.Launches.{NamedData}
 use Rattle.rim_accepted.specs.Accepted.{accepted_of}
+use Rattle.rim_line.specs.declared.remark.Remark.{Remark}
 use Rattle.rim_line.specs.Lines.{Saying, SayInTurn}
 
--- a line that is about a launch of this name
+-- a remark that is about a launch of this name
 abbrev pub warning_said : List ℕ → Saying
 warning_said name = record { front = Some (codes "warning: launch \""); word = name; detail = None }
 
@@ -17,9 +18,9 @@ IsWarning files ls s = (l : NamedData) × (number : ℕ) × (slice_get ls number
 abbrev pub more_said : ℕ → List Saying
 more_said more = if nat_lt 0 more then record { front = Some (codes "warning: "); word = decimal more; detail = Some (codes " more") } ∷ [] else []
 
--- a text is lines of warnings, each about a launch that is accepted, and then how many more there are
-pub record ShowsWarnings (files : List (List ℕ)) (ls : List NamedData) (text : List ℕ) : Type 0 where
+-- remarks are warnings, each about a launch that is accepted, and then how many more there are
+pub record ShowsWarnings (files : List (List ℕ)) (ls : List NamedData) (remarks : List Remark) : Type 0 where
   pub said : List Saying
   pub each : AllByRecursion (IsWarning files ls) said
   pub more : ℕ
-  pub lines : SayInTurn (said ++ more_said more) text
+  pub lines : SayInTurn (said ++ more_said more) remarks

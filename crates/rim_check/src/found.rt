@@ -5,7 +5,7 @@ ghost use Rattle.rim_line.specs.Lines.{AddsAll, IsKnown};
 
 use crate::warnings::Warnings;
 use refusal::NoMemory;
-use rim_line::{Line, push_line};
+use rim_line::{Line, Remark, push_remark};
 use rim_manifest::NamedLaunch;
 use rim_pages::{DISTINCT_LIMIT, MeasuredPages, StartFault};
 use rim_unusual::SeenTrees;
@@ -25,16 +25,16 @@ pub enum ReleaseFault {
 pub struct LaunchCheck {
     /// What is at fault, if anything is.
     pub fault: Option<ReleaseFault>,
-    /// A line for each launch that is refused, and one where there are too many pages.
-    pub faults: Vec<u8>,
-    /// A line for each thing that is rarely meant in launches that are accepted; none where the check is quiet.
-    pub warnings: Vec<u8>,
+    /// A remark on each launch that is refused, and one where there are too many pages.
+    pub faults: Vec<Remark>,
+    /// A remark on each thing that is rarely meant in launches that are accepted; none where the check is quiet.
+    pub warnings: Vec<Remark>,
 }
 
 /// What was found in the launches that were looked at. A quiet check looks for no warning.
 #[derive(Drop)]
 pub struct Found {
-    pub refusals: Vec<u8>,
+    pub refusals: Vec<Remark>,
     pub has_refused: bool,
     pub pages: MeasuredPages,
     pub warnings: Warnings,
@@ -79,7 +79,7 @@ impl Found {
             → ShowsWarnings files launches.now c.warnings.items) }
     {
         let count = self.pages.count(alloc)?;
-        let warnings = self.warnings.lines(alloc, launches)?;
+        let warnings = self.warnings.remarks(alloc, launches)?;
         let mut faults = self.refusals;
         push_pages(&mut faults, count)?;
         Ok(LaunchCheck {
@@ -104,17 +104,17 @@ fn fault_of(count: u128, has_refused: bool) -> Option<ReleaseFault>
     }
 }
 
-/// Adds a line that says how many different measured pages there are, where these are too many.
-fn push_pages(text: &mut Vec<u8>, count: u128) -> Result<(), NoMemory>
-    ensures { OnOk result (AddsAll (pages_said count) text.old.items text.new.items) }
+/// Adds a remark that says how many different measured pages there are, where these are too many.
+fn push_pages(remarks: &mut Vec<Remark>, count: u128) -> Result<(), NoMemory>
+    ensures { OnOk result (AddsAll (pages_said count) remarks.old.items remarks.new.items) }
 {
     if count <= u128::from(DISTINCT_LIMIT) {
         return Ok(());
     }
-    let alloc = *text.allocator();
+    let alloc = *remarks.allocator();
     let before = pages_front(alloc)?;
     let after = pages_detail(alloc, count)?;
-    push_line(text, &before, StartFault::TooManyPages.kind(), &after)
+    push_remark(remarks, before, StartFault::TooManyPages.kind(), after)
 }
 
 /// How that line begins.

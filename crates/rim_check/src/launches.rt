@@ -2,7 +2,7 @@
 ghost use Rattle.std.specs.Prelude.{◌≡◌, [], ◌++◌, IfOk, Ok, OnOk, Some, codes, length, true, vec_len};
 ghost use Rattle.ipa_layout.specs.Files.{bytes_of_files};
 ghost use Rattle.rim_check.specs.Details.{reason_detail};
-ghost use Rattle.rim_check.specs.Explained.{AddsRefusal, IsLaunchCheck, launch_front, refusal_said};
+ghost use Rattle.rim_check.specs.Explained.{AddsRefusal, IsLaunchCheck, IsRefusalLine, launch_front, refusal_said};
 ghost use Rattle.rim_line.specs.Lines.{AddsLine, IsKnown};
 ghost use Rattle.rim_manifest.specs.Launches.{item_name};
 ghost use Rattle.rim_check.specs.inside.Found.{AddsFound, AddsNumber, numbers_of};
@@ -14,13 +14,13 @@ use crate::mending::mending_of;
 use refusal::NoMemory;
 use rim_accepted::{AcceptedLaunch, LaunchReason, LoadedLaunch, LoadedRelease, accept};
 use rim_launch::Config;
-use rim_line::{Line, push_line};
+use rim_line::{Line, Remark, lines_of, push_remark};
 use rim_manifest::NamedLaunch;
 use rim_unusual::find_unusual;
 use std::alloc::{AllocError, Global};
 
-/// A line for each launch that is refused, in the manifest's order: its name, the word of its refusal as the report has
-/// it, and what is at fault. Then a line where the release has too many different measured pages, and beside them the warnings of
+/// A remark for each launch that is refused, in the manifest's order: its name, the word of its refusal as the report has
+/// it, and what is at fault. Then one where the release has too many different measured pages, and beside them the warnings of
 /// the launches that are accepted, unless the check is quiet. What is at fault is what keeps `rim measure` from a report without a
 /// refused launch.
 pub fn check_launches(
@@ -82,46 +82,45 @@ pub fn refusal_line(
     files: &[Vec<u8>],
     reason: &LaunchReason,
 ) -> Result<Vec<u8>, NoMemory>
-    ensures { IfOk result
-        (λ line. AddsRefusal launch.now reason.now [] line.items) }
+    ensures { IfOk result (λ line. IsRefusalLine launch.now reason.now line.items) }
 {
-    let mut line = Vec::new(alloc);
-    push_refusal(&mut line, launch, files, reason)?;
-    Ok(line)
+    let mut remarks = Vec::new(alloc);
+    push_refusal(&mut remarks, launch, files, reason)?;
+    lines_of(alloc, &remarks)
 }
 
-/// Adds the line of a launch that is refused, with what helps to mend it.
+/// Adds the remark on a launch that is refused, with what helps to mend it.
 fn push_refusal(
-    text: &mut Vec<u8>,
+    remarks: &mut Vec<Remark>,
     launch: &NamedLaunch,
     files: &[Vec<u8>],
     reason: &LaunchReason,
 ) -> Result<(), NoMemory>
     ensures { OnOk result (AddsRefusal launch.now reason.now
-        text.old.items text.new.items) }
+        remarks.old.items remarks.new.items) }
 {
-    let alloc = *text.allocator();
+    let alloc = *remarks.allocator();
     let mending = mending_of(launch.launch(), files, reason);
     let hint = format!(in alloc; "{mending}")?;
-    push_refused(text, launch, reason, hint.as_str())
+    push_refused(remarks, launch, reason, hint.as_str())
 }
 
-/// Adds that line with this hint.
+/// Adds that remark with this hint.
 fn push_refused(
-    text: &mut Vec<u8>,
+    remarks: &mut Vec<Remark>,
     launch: &NamedLaunch,
     reason: &LaunchReason,
     hint: &str,
 ) -> Result<(), NoMemory>
     ensures { OnOk result
         (AddsLine (refusal_said launch.now reason.now hint.now)
-        text.old.items text.new.items) }
+        remarks.old.items remarks.new.items) }
 {
-    let alloc = *text.allocator();
+    let alloc = *remarks.allocator();
     let before = launch_front(alloc, launch.name())?;
     let config = launch.launch().config();
     let after = detail(alloc, launch, &config, reason, hint)?;
-    push_line(text, &before, reason.fault().kind(), &after)
+    push_remark(remarks, before, reason.fault().kind(), after)
 }
 
 /// How the line of a launch begins.

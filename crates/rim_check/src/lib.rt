@@ -34,4 +34,4 @@ pub use manifest::{ManifestCheck, check_manifest};
 pub use marking::{MarkedLine, mark_first};
 pub use nearest::Nearest;
 pub use rim_accepted::LaunchReason;
-pub use rim_line::push_file;
+pub use rim_line::{Remark, lines_of, push_file};

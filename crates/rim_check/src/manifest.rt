@@ -15,7 +15,7 @@ use crate::spots::{Manifest, finding_spots};
 use crate::syntax::{error_spot, write_message};
 use itoa::Buffer;
 use refusal::NoMemory;
-use rim_line::{Line, push_line};
+use rim_line::{Line, Remark, push_remark};
 use rim_manifest::{Checked, Document, FaultList, Finding, ManifestFault, Release};
 use rim_spot::Spot;
 use std::alloc::Global;
@@ -24,14 +24,14 @@ use toml::de::Error;
 /// A manifest that was checked.
 #[derive(Drop)]
 pub enum ManifestCheck {
-    /// It has faults: a line for each.
-    Faulty(Vec<u8>),
+    /// It has faults: a remark for each.
+    Faulty(Vec<Remark>),
     /// It describes this release.
     Readable(Release),
 }
 
-/// Checks the manifest at a path: a line for each of its faults, which is proved of the lowest alone, and how many there are beside
-/// these; or the release that it describes. A line has the path, the line and the column of the fault in the text, its table and its key, its word, what is given and
+/// Checks the manifest at a path: a remark for each of its faults, which is proved of the lowest alone, and how many there are beside
+/// these; or the release that it describes. A remark has the path, the line and the column of the fault in the text, its table and its key, its word, what is given and
 /// what is expected.
 pub fn check_manifest(alloc: Global, path: &str, text: &[u8]) -> Result<ManifestCheck, NoMemory>
     ensures { IfOk result (IsCheckOf path.now text.now (manifest_of text.now)) }
@@ -42,7 +42,7 @@ pub fn check_manifest(alloc: Global, path: &str, text: &[u8]) -> Result<Manifest
             if error.is_memory() {
                 return Err(NoMemory);
             }
-            return Ok(ManifestCheck::Faulty(syntax_line(alloc, path, text, &error)?));
+            return Ok(ManifestCheck::Faulty(syntax_remark(alloc, path, text, &error)?));
         }
     };
     match document.check(alloc)? {
@@ -53,87 +53,96 @@ pub fn check_manifest(alloc: Global, path: &str, text: &[u8]) -> Result<Manifest
                 text,
                 document: &document,
             };
-            Ok(ManifestCheck::Faulty(lines(alloc, &manifest, &list)?))
+            Ok(ManifestCheck::Faulty(remarks(alloc, &manifest, &list)?))
         }
     }
 }
 
-/// The line of a text that is no TOML document: where it is none, and why.
-fn syntax_line(alloc: Global, path: &str, text: &[u8], error: &Error) -> Result<Vec<u8>, NoMemory>
-    ensures { IfOk result (λ line. (spot : Option Spot)
-        × SayInTurn (fault_said path.now None (no_document spot) ∷ []) line.items) }
+/// The remark on a text that is no TOML document: where it is none, and why.
+fn syntax_remark(
+    alloc: Global,
+    path: &str,
+    text: &[u8],
+    error: &Error,
+) -> Result<Vec<Remark>, NoMemory>
+    ensures { IfOk result (λ remarks. (spot : Option Spot)
+        × SayInTurn (fault_said path.now None (no_document spot) ∷ []) remarks.items) }
 {
     let before = fault_front(alloc, path, error_spot(text, error), "")?;
     let mut after = Line::new(alloc);
     write_message(&mut after, text, error).map_err(|_| NoMemory)?;
-    let mut lines = Vec::new(alloc);
-    push_line(&mut lines, &before, ManifestFault::Syntax.kind(), &after)?;
-    Ok(lines)
+    let mut remarks = Vec::new(alloc);
+    push_remark(&mut remarks, before, ManifestFault::Syntax.kind(), after)?;
+    Ok(remarks)
 }
 
-/// A line for each fault of which an excerpt is given, and one that says how many others there are.
-fn lines(alloc: Global, manifest: &Manifest<'_>, list: &FaultList) -> Result<Vec<u8>, NoMemory>
-    ensures { IfOk result (λ lines. ShowsList manifest.now.path.now
+/// A remark for each fault of which an excerpt is given, and one that says how many others there are.
+fn remarks(
+    alloc: Global,
+    manifest: &Manifest<'_>,
+    list: &FaultList,
+) -> Result<Vec<Remark>, NoMemory>
+    ensures { IfOk result (λ remarks. ShowsList manifest.now.path.now
         (table_view manifest.now.document.now.table) (faults_in list.now.findings.items)
-        list.now.more lines.items) }
+        list.now.more remarks.items) }
 {
     let excerpt = take_excerpt(alloc, manifest.document, list)?;
-    let mut lines = finding_lines(alloc, manifest, &excerpt.findings)?;
+    let mut remarks = finding_remarks(alloc, manifest, &excerpt.findings)?;
     if excerpt.more > 0 {
-        push_others(&mut lines, excerpt.more)?;
+        push_others(&mut remarks, excerpt.more)?;
     }
-    Ok(lines)
+    Ok(remarks)
 }
 
-/// A line for each fault.
-fn finding_lines(
+/// A remark for each fault.
+fn finding_remarks(
     alloc: Global,
     manifest: &Manifest<'_>,
     found: &[Finding],
-) -> Result<Vec<u8>, NoMemory>
-    ensures { IfOk result (λ lines. ShowsFindings manifest.now.path.now
-        (table_view manifest.now.document.now.table) found.now lines.items) }
+) -> Result<Vec<Remark>, NoMemory>
+    ensures { IfOk result (λ remarks. ShowsFindings manifest.now.path.now
+        (table_view manifest.now.document.now.table) found.now remarks.items) }
 {
     let spots = finding_spots(alloc, manifest, found)?;
-    let mut lines = Vec::new(alloc);
+    let mut remarks = Vec::new(alloc);
     let mut spots = spots.iter();
     for finding in found {
         let spot = spots.next().copied().flatten();
-        add_line(&mut lines, manifest, finding, spot)?;
+        add_remark(&mut remarks, manifest, finding, spot)?;
     }
-    Ok(lines)
+    Ok(remarks)
 }
 
-/// Adds a line that says how many faults have none.
-fn push_others(lines: &mut Vec<u8>, more: u64) -> Result<(), NoMemory>
+/// Adds a remark that says how many faults have none.
+fn push_others(remarks: &mut Vec<Remark>, more: u64) -> Result<(), NoMemory>
     requires { 0 < more }
-    ensures { OnOk result (AddsAll (others_said more) lines.old.items lines.new.items) }
+    ensures { OnOk result (AddsAll (others_said more) remarks.old.items remarks.new.items) }
 {
-    let alloc = *lines.allocator();
+    let alloc = *remarks.allocator();
     let mut after = Line::new(alloc);
     after.push_text(if more == 1 {
         " more fault"
     } else {
         " more faults"
     })?;
-    push_line(lines, &Line::new(alloc), Buffer::new().format(more), &after)
+    push_remark(remarks, Line::new(alloc), Buffer::new().format(more), after)
 }
 
-/// Adds the line of a fault, with its place in the text where that is known.
-fn add_line(
-    lines: &mut Vec<u8>,
+/// Adds the remark on a fault, with its place in the text where that is known.
+fn add_remark(
+    remarks: &mut Vec<Remark>,
     manifest: &Manifest<'_>,
     finding: &Finding,
     spot: Option<Spot>,
 ) -> Result<(), NoMemory>
     ensures { OnOk result (AddsLine (fault_said manifest.now.path.now
         (Some (table_view manifest.now.document.now.table)) (located finding.now spot))
-        lines.old.items lines.new.items) }
+        remarks.old.items remarks.new.items) }
 {
-    let alloc = *lines.allocator();
+    let alloc = *remarks.allocator();
     let place = place_text(alloc, manifest.document, finding.place, finding.subject)?;
     let before = fault_front(alloc, manifest.path, spot, place.as_str())?;
     let mut after = Line::new(alloc);
     write_detail(alloc, &mut after, manifest.document, finding).map_err(|_| NoMemory)?;
-    push_line(lines, &before, finding.fault.kind(), &after)
+    push_remark(remarks, before, finding.fault.kind(), after)
 }

@@ -5,7 +5,7 @@ ghost use Rattle.rim_check.specs.Warned.{more_said, warning_said};
 
 use itoa::Buffer;
 use refusal::NoMemory;
-use rim_line::{Line, push_line};
+use rim_line::{Line, Remark, push_remark};
 use rim_manifest::NamedLaunch;
 use rim_unusual::Unusual;
 use std::alloc::Global;
@@ -103,37 +103,37 @@ impl Warnings {
         Ok(())
     }
 
-    /// A line for each, and one that says how many more there are.
-    pub fn lines(&self, alloc: Global, launches: &[NamedLaunch]) -> Result<Vec<u8>, NoMemory>
-        ensures { IfOk result (λ lines. (files : List (List ℕ))
+    /// A remark for each, and one that says how many more there are.
+    pub fn remarks(&self, alloc: Global, launches: &[NamedLaunch]) -> Result<Vec<Remark>, NoMemory>
+        ensures { IfOk result (λ remarks. (files : List (List ℕ))
             → AreWarned files launches.now (numbers_of self.now)
-            → ShowsWarnings files launches.now lines.items) }
+            → ShowsWarnings files launches.now remarks.items) }
     {
-        let mut lines = Vec::new(alloc);
+        let mut remarks = Vec::new(alloc);
         for warning in &self.found {
             if let Some(launch) = launches.get(warning.launch) {
-                push_warning(&mut lines, launch.name(), warning)?;
+                push_warning(&mut remarks, launch.name(), warning)?;
             }
         }
         if self.more > 0 {
-            push_more(&mut lines, self.more)?;
+            push_more(&mut remarks, self.more)?;
         }
-        Ok(lines)
+        Ok(remarks)
     }
 }
 
-/// Adds the line of a warning about a launch of this name, and how many others have the same.
-fn push_warning(lines: &mut Vec<u8>, name: &str, warning: &Warning) -> Result<(), NoMemory>
-    ensures { OnOk result (AddsLine (warning_said name.now) lines.old.items lines.new.items) }
+/// Adds the remark of a warning about a launch of this name, and how many others have the same.
+fn push_warning(remarks: &mut Vec<Remark>, name: &str, warning: &Warning) -> Result<(), NoMemory>
+    ensures { OnOk result (AddsLine (warning_said name.now) remarks.old.items remarks.new.items) }
 {
-    let alloc = *lines.allocator();
+    let alloc = *remarks.allocator();
     let mut before = Line::new(alloc);
     before.push_text("warning: launch \"")?;
     let after = warning_end(alloc, warning)?;
-    push_line(lines, &before, name, &after)
+    push_remark(remarks, before, name, after)
 }
 
-/// How that line ends.
+/// How its line ends.
 fn warning_end(alloc: Global, warning: &Warning) -> Result<Line, NoMemory> {
     let mut line = Line::new(alloc);
     match warning.others {
@@ -146,15 +146,15 @@ fn warning_end(alloc: Global, warning: &Warning) -> Result<Line, NoMemory> {
     Ok(line)
 }
 
-/// Adds a line that says how many warnings have none.
-fn push_more(lines: &mut Vec<u8>, more: usize) -> Result<(), NoMemory>
+/// Adds a remark that says how many warnings have none.
+fn push_more(remarks: &mut Vec<Remark>, more: usize) -> Result<(), NoMemory>
     requires { 0 < more }
-    ensures { OnOk result (AddsAll (more_said more) lines.old.items lines.new.items) }
+    ensures { OnOk result (AddsAll (more_said more) remarks.old.items remarks.new.items) }
 {
-    let alloc = *lines.allocator();
+    let alloc = *remarks.allocator();
     let mut before = Line::new(alloc);
     before.push_text("warning: ")?;
     let mut after = Line::new(alloc);
     after.push_text(" more")?;
-    push_line(lines, &before, Buffer::new().format(more), &after)
+    push_remark(remarks, before, Buffer::new().format(more), after)
 }

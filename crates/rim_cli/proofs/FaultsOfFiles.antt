@@ -3,6 +3,7 @@ use Rattle.std.proofs.Common.{◌≡◌, ℕ, zero, suc, ◌+◌, ◌==◌, ◌�
 use Rattle.std.proofs.lemmas.Bool.{eqb-true}
 use Rattle.std.proofs.lemmas.List.{nil_from_length}
 use Rattle.std.proofs.lemmas.Option.{same_Some}
+use Rattle.rim_line.specs.declared.remark.Remark.{Remark}
 use Rattle.rim_line.specs.Lines.{AddsLine, Saying, SayInTurn, file_said}
 use Rattle.rim_cli.specs.Files.{AreRead, IfFile, IsFileFault, IsRead, Known}
 use Rattle.rim_cli.specs.Status.{word_of}
@@ -69,13 +70,13 @@ some_said : (said : List Saying) (s : Saying) → said ++ s ∷ [] ≡ [] → �
 some_said [] s e = cc
 some_said (first ∷ rest) s e = cc
 
-module _ (held : List ℕ → Known) (paths : List (List ℕ)) (i : ℕ) (files : List (List ℕ)) (text path : List ℕ)
-    (found : AreFound held (take i paths) files text) (here : slice_get paths i ≡ Some path) where
+module _ (held : List ℕ → Known) (paths : List (List ℕ)) (i : ℕ) (files : List (List ℕ)) (remarks : List Remark) (path : List ℕ)
+    (found : AreFound held (take i paths) files remarks) (here : slice_get paths i ≡ Some path) where
   next : suc i ≡ i + 1
   next = omega arith
 
   -- what is found once the file at the next path is read, or cannot be
-  pub found_file : (file : List ℕ) → IsRead (held path) file → AreFound held (take (i + 1) paths) (files ++ file ∷ []) text
+  pub found_file : (file : List ℕ) → IsRead (held path) file → AreFound held (take (i + 1) paths) (files ++ file ∷ []) remarks
   found_file file read = record {
     said = found.said;
     unread = subst (λ n. AreUnread held (take n paths) found.said) next (kept_after held paths i found.said path file found.unread here read);
@@ -83,7 +84,7 @@ module _ (held : List ℕ → Known) (paths : List (List ℕ)) (i : ℕ) (files 
     read = λ none. read_next held paths i files path file (found.read none) here read;
   }
 
-  pub found_fault : (s : Saying) (new : List ℕ) → IsUnread (held path) path s → AddsLine s text new → AreFound held (take (i + 1) paths) files new
+  pub found_fault : (s : Saying) (new : List Remark) → IsUnread (held path) path s → AddsLine s remarks new → AreFound held (take (i + 1) paths) files new
   found_fault s new unread adds = record {
     said = found.said ++ s ∷ [];
     unread = subst (λ n. AreUnread held (take n paths) (found.said ++ s ∷ [])) next (added_after held paths i found.said path s found.unread here unread);
@@ -91,21 +92,16 @@ module _ (held : List ℕ → Known) (paths : List (List ℕ)) (i : ℕ) (files 
     read = λ none. absurd (some_said found.said s none);
   }
 
--- a text without bytes has no line
-no_end : (line rest : List ℕ) → [] ≡ line ++ (10 ∷ rest) → ⊥
-no_end [] rest e = cc
-no_end (b ∷ bs) rest e = cc
+no_remarks : (said : List Saying) → SayInTurn said [] → said ≡ []
+no_remarks [] remarks = refl
+no_remarks (s ∷ said) remarks = absurd (let split = remarks.split in cc)
 
-no_lines : (said : List Saying) → SayInTurn said [] → said ≡ []
-no_lines [] lines = refl
-no_lines (s ∷ said) lines = absurd (no_end lines.line lines.rest lines.split)
-
--- where no line was added, each file is read
-pub all_files : (held : List ℕ → Known) (paths files : List (List ℕ)) (text : Vec ℕ Global) → AreFound held paths files text.items
-    → true ≡ (vec_len text == 0) → AreRead held paths files
-all_files held paths files text found none =
-    let empty : text.items ≡ [] = nil_from_length text.items (omega (arith, text.ok, eqb-true (vec_len text) 0 (sym none))) in
-    found.read (no_lines found.said (subst (SayInTurn found.said) empty found.lines))
+-- where no remark was added, each file is read
+pub all_files : (held : List ℕ → Known) (paths files : List (List ℕ)) (unread : Vec Remark Global) → AreFound held paths files unread.items
+    → true ≡ (vec_len unread == 0) → AreRead held paths files
+all_files held paths files unread found none =
+    let empty : unread.items ≡ [] = nil_from_length unread.items (omega (arith, unread.ok, eqb-true (vec_len unread) 0 (sym none))) in
+    found.read (no_remarks found.said (subst (SayInTurn found.said) empty found.lines))
 
 -- each file that is read is one of a path
 pub read_count : (held : List ℕ → Known) (paths files : List (List ℕ)) → AreRead held paths files → length files ≡ length paths

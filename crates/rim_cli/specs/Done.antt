@@ -24,7 +24,8 @@ use Rattle.rim_check.specs.Explained.{Explains, ShowsFaults, fault_in}
 use Rattle.rim_check.specs.Warned.{ShowsWarnings}
 use Rattle.rim_check.specs.declared.found.ReleaseFault.{ReleaseFault}
 use Rattle.rim_check.specs.declared.found.ReleaseFault.TheVariants as release
-use Rattle.rim_line.specs.Lines.{Saying, SayInTurn}
+use Rattle.rim_line.specs.Lines.{Saying, SayInTurn, lines_of}
+use Rattle.rim_line.specs.declared.remark.Remark.{Remark}
 use Rattle.rim_words.specs.declared.definition.TheConstants.{VERSION}
 use Rattle.rim_words.specs.declared.words.Format.{Format}
 use Rattle.rim_words.specs.declared.words.Format.TheVariants as format
@@ -71,12 +72,12 @@ pub record IsAudit (held : List ℕ → Known) (r : ReleaseData) (shown : List �
   pub text : shown ≡ audit_text_of files r.launches
   pub status : answer ≡ (if has_refused files r.launches then 1 else 0)
 
--- what a check finds, in lines: faults, and warnings
+-- what a check finds: faults, and warnings
 pub record Findings : Type 0 where
-  pub faults : List ℕ
-  pub warnings : List ℕ
+  pub faults : List Remark
+  pub warnings : List Remark
 
--- a release is checked whose files are not all read: a line for each that cannot be, and the status is 3
+-- a release is checked whose files are not all read: a remark on each that cannot be, and the status is 3
 pub record ChecksFiles (held : List ℕ → Known) (r : ReleaseData) (found : Findings) (answer : ℕ) : Type 0 where
   pub said : List Saying
   pub unread : AreUnread held r.paths said
@@ -95,7 +96,7 @@ check_status (Some release.TooManyPages) = 3
 pub record ChecksLaunches (held : List ℕ → Known) (quiet : Bool) (r : ReleaseData) (found : Findings) (answer : ℕ) : Type 0 where
   pub files : List (List ℕ)
   pub read : AreRead held r.paths files
-  pub warnings : List ℕ
+  pub warnings : List Remark
   pub shown : found.warnings ≡ (if quiet then [] else warnings)
   pub faulty : ShowsFaults files r.launches found.faults
   pub warned : ShowsWarnings files r.launches warnings
@@ -105,7 +106,7 @@ pub record ChecksLaunches (held : List ℕ → Known) (quiet : Bool) (r : Releas
 abbrev pub IsReleaseCheck : (List ℕ → Known) → Bool → ReleaseData → Findings → ℕ → Type 0
 IsReleaseCheck held quiet r found status = ChecksFiles held r found status ⊎ ChecksLaunches held quiet r found status
 
--- a manifest with this path and these bytes is checked: a line for each of some faults, the lowest of its faults among them, and the status
+-- a manifest with this path and these bytes is checked: a remark on each of some faults, the lowest of its faults among them, and the status
 -- is 3; or else the release that it describes is
 abbrev pub FindsOf : (List ℕ → Known) → Bool → List ℕ → List ℕ → Answer → Findings → ℕ → Type 0
 FindsOf held quiet path bytes (Err fault) found status = Explains path bytes fault found.faults × (found.warnings ≡ []) × (status ≡ 3)
@@ -116,7 +117,7 @@ Finds held quiet path bytes found status = FindsOf held quiet path bytes (manife
 
 -- what is found, in a format: the lines of the faults and then those of the warnings; or the same lines as JSON, with the status
 abbrev pub shown_in : Format → Findings → ℕ → List ℕ
-shown_in format.Text found status = found.faults ++ found.warnings
+shown_in format.Text found status = lines_of found.faults ++ lines_of found.warnings
 shown_in format.Json found status = check_json_of found.faults found.warnings status
 
 -- what a check prints in a format, and its status

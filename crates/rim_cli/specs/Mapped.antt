@@ -1,12 +1,12 @@
 -- The map of a launch, and the status. This project's choice.
-use Rattle.std.specs.Prelude.{◌≡◌, ℕ, List, [], ◌++◌, ⊤, Result, Ok, Err, codes}
+use Rattle.std.specs.Prelude.{◌≡◌, ℕ, List, ◌++◌, ⊤, Result, Ok, Err, codes}
 use Rattle.ipa_layout.specs.Layout.{PlacedData}
 use Rattle.rim_manifest.specs.Launches.{NamedData}
 use Rattle.rim_accepted.specs.Accepted.{accepted_of}
 use Rattle.rim_accepted.specs.declared.audit_fault.AuditFault.{AuditFault}
 use Rattle.rim_accepted.specs.Reasons.{IsRefusedFor}
 use Rattle.rim_accepted.specs.declared.reason.LaunchReason.{LaunchReason}
-use Rattle.rim_check.specs.Explained.{AddsRefusal}
+use Rattle.rim_check.specs.Explained.{IsRefusalLine}
 use Rattle.rim_map.specs.MapJson.{IsMap}
 use Rattle.rim_map.specs.RefusedMap.{EndsWithLine, IsRefusedMap}
 use Rattle.rim_words.specs.declared.words.Format.{Format}
@@ -27,7 +27,7 @@ pub record IsRefusedMapOf (format : Format) (paths : List (List ℕ)) (l : Named
   pub why : LaunchReason
   pub refused : IsRefusedFor l.launch files why
   pub line : List ℕ
-  pub says : AddsRefusal l why [] (line ++ codes "\n")
+  pub says : IsRefusalLine l why (line ++ codes "\n")
   pub shown : ShowsRefusal format paths l files why line text
 
 -- the status is 0 where the launch is accepted, and 1 where it is refused; and this is its map

@@ -2,25 +2,27 @@
 ghost use Rattle.std.specs.Prelude.{◌≡◌, ◌≢◌, ◌⊎◌, ◌≤◌, [], ◌++◌, IfErr, IfOk, OnOk, if◌then◌else◌, map};
 ghost use Rattle.rim_cli.specs.Done.{Finds, IsCheckIn, IsReleaseCheck, check_status, shown_in};
 ghost use Rattle.rim_cli.specs.Files.{IfFile, IsFileFault};
-ghost use Rattle.rim_cli.specs.inside.Found.{AreFound, HasLine, findings_of};
+ghost use Rattle.rim_line.specs.Lines.{lines_of};
+ghost use Rattle.rim_cli.specs.inside.Found.{AreFound, HasRemark, findings_of};
 
 use crate::answer::Answer;
 use crate::fault::Fault;
 use crate::file::{FILE_LIMIT, Opener, Unread, read_file, read_or_why};
 use refusal::NoMemory;
 use rim_check::{
-    LaunchCheck, ManifestCheck, ReleaseFault, check_json, check_launches, check_manifest, push_file,
+    LaunchCheck, ManifestCheck, ReleaseFault, Remark, check_json, check_launches, check_manifest,
+    lines_of, push_file,
 };
 use rim_release::{Files, LoadedRelease, Release};
 use rim_words::Format;
 use std::alloc::{AllocError, Global};
 use std::io::ErrorKind;
 
-/// What a check has found: a line for each fault, a line for each warning, and the exit status that it ends with.
+/// What a check has found: the faults, the warnings, and the exit status that it ends with.
 #[derive(Drop)]
 pub struct Checked {
-    pub faults: Vec<u8>,
-    pub warnings: Vec<u8>,
+    pub faults: Vec<Remark>,
+    pub warnings: Vec<Remark>,
     pub status: u8,
 }
 
@@ -49,28 +51,27 @@ fn answer_in(alloc: Global, found: Checked, format: Format) -> Result<Answer, Fa
     ensures status { IfOk result (λ a. a.status ≡ found.status) }
     ensures refused { IfErr result (λ e. e ≡ Fault.NoMemory) }
 {
-    let status = found.status;
-    match format {
-        Format::Text => Ok(Answer {
-            text: lines_of(found)?,
-            status,
-        }),
-        Format::Json => match check_json(alloc, &found.faults, &found.warnings, status) {
-            Ok(text) => Ok(Answer { text, status }),
-            Err(_) => Err(Fault::NoMemory),
-        },
+    let Checked {
+        faults,
+        warnings,
+        status,
+    } = found;
+    let text = match format {
+        Format::Text => lines(alloc, &faults, &warnings),
+        Format::Json => check_json(alloc, &faults, &warnings, status),
+    };
+    match text {
+        Ok(text) => Ok(Answer { text, status }),
+        Err(_) => Err(Fault::NoMemory),
     }
 }
 
-/// The lines of the faults, and then those of the warnings.
-fn lines_of(found: Checked) -> Result<Vec<u8>, Fault>
-    ensures text { IfOk result (λ text. text.items ≡ found.faults.items ++ found.warnings.items) }
-    ensures refused { IfErr result (λ e. e ≡ Fault.NoMemory) }
+/// A line for each fault, and then for each warning.
+fn lines(alloc: Global, faults: &[Remark], warnings: &[Remark]) -> Result<Vec<u8>, NoMemory>
+    ensures { IfOk result (λ text. text.items ≡ lines_of faults.now ++ lines_of warnings.now) }
 {
-    let mut text = found.faults;
-    if text.extend_from_slice(&found.warnings).is_err() {
-        return Err(Fault::NoMemory);
-    }
+    let mut text = lines_of(alloc, faults)?;
+    text.extend_from_slice(&lines_of(alloc, warnings)?)?;
     Ok(text)
 }
 
@@ -95,7 +96,7 @@ fn check_path<O: Opener>(
 }
 
 /// Faults of a manifest or of its files, which leave no launch to look at.
-fn at_fault(alloc: Global, faults: Vec<u8>) -> Checked
+fn at_fault(alloc: Global, faults: Vec<Remark>) -> Checked
     ensures faults { result.faults.items ≡ faults.items }
     ensures warnings { result.warnings.items ≡ [] }
     ensures status { result.status ≡ 3 }
@@ -160,11 +161,11 @@ fn check_status(fault: Option<ReleaseFault>) -> u8
     }
 }
 
-/// The bytes of the files that are read, and a line for each that cannot be.
+/// The bytes of the files that are read, and a remark on each that cannot be.
 #[derive(Drop)]
 struct FoundFiles {
     files: Files,
-    unread: Vec<u8>,
+    unread: Vec<Remark>,
 }
 
 /// Reads each file of a release, also where one before it cannot be read.
@@ -189,30 +190,30 @@ fn find_files<O: Opener>(
     Ok(FoundFiles { files, unread })
 }
 
-/// Adds the line of a file that cannot be read, but passes want of memory on.
-fn push_unread(text: &mut Vec<u8>, path: &str, why: Unread) -> Result<(), Fault>
-    ensures line { OnOk result (HasLine path.now why.fault text.old.items text.new.items) }
+/// Adds the remark on a file that cannot be read, but passes want of memory on.
+fn push_unread(unread: &mut Vec<Remark>, path: &str, why: Unread) -> Result<(), Fault>
+    ensures line { OnOk result (HasRemark path.now why.fault unread.old.items unread.new.items) }
     ensures own { OnOk result (why.fault ≢ Fault.NoMemory) }
     ensures full { IfErr result (λ e. e ≡ Fault.NoMemory) }
 {
     match why.fault {
         Fault::NoMemory => Err(Fault::NoMemory),
-        fault => push_line(text, path, fault, why.failure).map_err(|_| Fault::NoMemory),
+        fault => push_remark(unread, path, fault, why.failure).map_err(|_| Fault::NoMemory),
     }
 }
 
-/// Adds that line, with what the system says.
-fn push_line(
-    text: &mut Vec<u8>,
+/// Adds that remark, with what the system says.
+fn push_remark(
+    unread: &mut Vec<Remark>,
     path: &str,
     fault: Fault,
     failure: Option<ErrorKind>,
 ) -> Result<(), NoMemory>
-    ensures { OnOk result (HasLine path.now fault text.old.items text.new.items) }
+    ensures { OnOk result (HasRemark path.now fault unread.old.items unread.new.items) }
 {
-    let alloc = *text.allocator();
+    let alloc = *unread.allocator();
     let hint = failure_text(alloc, path, fault, failure)?;
-    push_file(text, path, fault.kind(), hint.as_str())
+    push_file(unread, path, fault.kind(), hint.as_str())
 }
 
 /// What is known of a file that cannot be read, after a colon.

@@ -3,7 +3,7 @@ ghost use Rattle.std.specs.Prelude.{◌≡◌, ◌<◌, ◌≤◌, ◌++◌, ℕ
 ghost use Rattle.rim_cli.specs.Done.{IsMapped, RefusesListing, RefusesManifest};
 ghost use Rattle.rim_cli.specs.Files.{IfFile};
 ghost use Rattle.rim_cli.specs.Mapped.{IsMapOf, ShowsPlaced, ShowsRefusal};
-ghost use Rattle.rim_check.specs.Explained.{AddsRefusal};
+ghost use Rattle.rim_check.specs.Explained.{IsRefusalLine};
 ghost use Rattle.ipa_layout.specs.Files.{bytes_of_files};
 ghost use Rattle.rim_manifest.specs.Manifest.{manifest_of};
 
@@ -90,7 +90,7 @@ fn refused_map(
     format: Format,
 ) -> Result<Vec<u8>, NoMemory>
     ensures { IfOk result (λ text. (line : List ℕ)
-        × AddsRefusal loaded.entry.launch.now reason.now [] (line ++ codes "\n")
+        × IsRefusalLine loaded.entry.launch.now reason.now (line ++ codes "\n")
         × ShowsRefusal format release.now.paths loaded.entry.launch.now
         (bytes_of_files loaded.entry.files.now) reason.now line text.items) }
 {

@@ -2,7 +2,9 @@
 #![tactic(auto)]
 
 mod line;
+mod remark;
 mod terminal;
 
-pub use line::{Line, Quoted, push_file, push_line, shown};
+pub use line::{Line, Quoted, shown};
+pub use remark::{Remark, lines_of, push_file, push_remark};
 pub use terminal::TerminalWriter;

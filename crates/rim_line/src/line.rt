@@ -1,9 +1,8 @@
 //! Lines of text.
-ghost use Rattle.std.specs.Prelude.{◌≡◌, ◌<◌, Option, List, ℕ, OnOk, true};
+ghost use Rattle.std.specs.Prelude.{◌≡◌, ◌<◌, true};
 ghost use Rattle.std.specs.List.{list_all};
-ghost use Rattle.rim_line.specs.Lines.{AddsLine, IsKnown, file_said, is_inside, is_plain};
+ghost use Rattle.rim_line.specs.Shown.{is_inside, is_plain};
 
-use refusal::NoMemory;
 use std::alloc::{AllocError, Global};
 use std::fmt;
 use std::fmt::Write;
@@ -25,7 +24,7 @@ pub struct Line {
 impl Line {
     ghost use Rattle.std.specs.Prelude.{◌≡◌, ◌++◌, [], OnOk, true};
     ghost use Rattle.std.specs.List.{list_all};
-    ghost use Rattle.rim_line.specs.Lines.{is_inside, is_plain};
+    ghost use Rattle.rim_line.specs.Shown.{is_inside, is_plain};
 
     /// A line with no bytes. It takes no memory.
     pub fn new(alloc: Global) -> Line
@@ -243,37 +242,4 @@ pub fn shown(text: &str) -> (&str, &'static str) {
         Some(front) => (front, ".."),
         None => (text, ""),
     }
-}
-
-/// Adds a line that says a word, with these texts before it and after it.
-pub fn push_line(
-    text: &mut Vec<u8>,
-    before: &Line,
-    kind: &str,
-    after: &Line,
-) -> Result<(), NoMemory>
-    ensures { OnOk result ((front detail : Option (List ℕ))
-        → IsKnown front before.now.text.items → IsKnown detail after.now.text.items
-        → AddsLine (record { front = front; word = kind.now; detail = detail })
-        text.old.items text.new.items) }
-{
-    text.extend_from_slice(before.as_slice())?;
-    text.extend_from_slice(kind.as_bytes())?;
-    text.extend_from_slice(after.as_slice())?;
-    text.push(b'\n')?;
-    Ok(())
-}
-
-/// Adds the line of a file that cannot be read: its path, the word of why, and what else is known of that.
-pub fn push_file(text: &mut Vec<u8>, path: &str, kind: &str, hint: &str) -> Result<(), NoMemory>
-    ensures { OnOk result
-        (AddsLine (file_said path.now kind.now hint.now) text.old.items text.new.items) }
-{
-    let alloc = *text.allocator();
-    let mut before = Line::new(alloc);
-    before.push_path(path)?;
-    before.push_text(": ")?;
-    let mut after = Line::new(alloc);
-    after.push_text(hint)?;
-    push_line(text, &before, kind, &after)
 }

@@ -4,7 +4,7 @@ ghost use Rattle.std.specs.Prelude.{◌≡◌, ◌<◌, length, vec_len};
 use crate::calls::ReleaseCall;
 use crate::inputs::{files_of, split};
 use crate::maps;
-use crate::trial::{Fault, Seen, begin, digest, end, seen, text_digest};
+use crate::trial::{Fault, Seen, begin, digest, end, remarks_digest, seen, text_digest};
 use refusal::NoMemory;
 use rim_check::{LaunchCheck, check_launches};
 use rim_desc::{Lanes, Measurement};
@@ -287,8 +287,8 @@ fn report_digest(_alloc: Global, report: &Report) -> Result<u64, AllocError> {
     Ok(digest(report.text.as_slice()))
 }
 
-fn check_digest(_alloc: Global, check: &LaunchCheck) -> Result<u64, AllocError> {
-    Ok(digest(check.faults.as_slice()) ^ digest(check.warnings.as_slice()))
+fn check_digest(alloc: Global, check: &LaunchCheck) -> Result<u64, AllocError> {
+    Ok(remarks_digest(alloc, &check.faults)? ^ remarks_digest(alloc, &check.warnings)?)
 }
 
 fn value_digest(_alloc: Global, value: &Measurement) -> Result<u64, AllocError> {

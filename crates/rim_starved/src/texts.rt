@@ -2,7 +2,7 @@
 
 use crate::calls::TextCall;
 use crate::machine::{applied, cloned, printed};
-use crate::trial::{Fault, Seen, begin, digest, end, seen, text_digest};
+use crate::trial::{Fault, Seen, begin, digest, end, remarks_digest, seen, text_digest};
 use refusal::NoMemory;
 use rim_check::{ManifestCheck, MarkedLine, check_json, check_manifest, mark_first};
 use rim_cli::{CommandFault, Request, command};
@@ -73,15 +73,18 @@ fn fault_marked<R: Print + AllocGlobal>(
     Ok(seen!(alloc, answer, mark_digest, NoMemory))
 }
 
-/// The lines of a text as those of a check.
+/// What a check finds in a manifest, as JSON.
 fn written_as_json<R: Print + AllocGlobal>(
     rt: &R,
     text: &[u8],
     is_tried: bool,
 ) -> Result<Seen, Fault> {
     let alloc = rt.alloc();
+    let ManifestCheck::Faulty(faults) = check_manifest(alloc, "manifest.toml", text)? else {
+        return Err(Fault::Input);
+    };
     begin(rt, is_tried)?;
-    let answer = check_json(alloc, text, text, 3);
+    let answer = check_json(alloc, &faults, &faults, 3);
     end(rt, is_tried)?;
     Ok(seen!(alloc, answer, text_digest, NoMemory))
 }
@@ -137,7 +140,7 @@ fn release_digest(alloc: Global, release: &Release) -> Result<u64, AllocError> {
 
 fn check_digest(alloc: Global, check: &ManifestCheck) -> Result<u64, AllocError> {
     match check {
-        ManifestCheck::Faulty(lines) => Ok(digest(lines.as_slice())),
+        ManifestCheck::Faulty(faults) => remarks_digest(alloc, faults),
         ManifestCheck::Readable(release) => release_digest(alloc, release),
     }
 }

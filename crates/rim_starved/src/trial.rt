@@ -1,6 +1,7 @@
 //! A call, made with ample memory, made where memory may be refused, and made again with ample memory.
 
 use refusal::NoMemory;
+use rim_line::Remark;
 use std::alloc::{AllocError, AllocFailed, Global};
 use std::io;
 
@@ -84,6 +85,16 @@ pub fn digest(bytes: &[u8]) -> u64 {
 /// The digest of a text that a call answers.
 pub fn text_digest(_alloc: Global, text: &Vec<u8>) -> Result<u64, AllocError> {
     Ok(digest(text.as_slice()))
+}
+
+/// The digest of remarks that a call answers.
+pub fn remarks_digest(alloc: Global, remarks: &[Remark]) -> Result<u64, AllocError> {
+    let mut text = Vec::new(alloc);
+    for remark in remarks {
+        remark.push_to(&mut text)?;
+        text.push(b'\n')?;
+    }
+    Ok(digest(&text))
 }
 
 /// What a call answered. `$shown` makes a digest of what it gives, and `$no_memory` is its want of memory.

@@ -9,6 +9,7 @@ use Rattle.rim_manifest.specs.declared.finding.Subject.TheVariants as subject
 use Rattle.rim_manifest.specs.declared.finding.Finding.{Finding}
 use Rattle.rim_manifest.specs.inside.Kept.{faults_in}
 use Rattle.rim_check.specs.Explained.{Located, fault_said, others_said}
+use Rattle.rim_line.specs.declared.remark.Remark.{Remark}
 use Rattle.rim_line.specs.Lines.{SayInTurn}
 use Rattle.rim_spot.specs.declared.spot.Spot.{Spot}
 
@@ -23,17 +24,17 @@ no_document spot = record { fault = Syntax; spot = spot; place = place.Top; subj
 abbrev pub faults_at : List Located → List ManifestFault
 faults_at ls = map (λ l. l.fault) ls
 
--- a text is a line for each fault that was found in a document
-pub record ShowsFindings (path : List ℕ) (ms : Members) (found : List Finding) (text : List ℕ) : Type 0 where
+-- there is a remark for each fault that was found in a document
+pub record ShowsFindings (path : List ℕ) (ms : Members) (found : List Finding) (remarks : List Remark) : Type 0 where
   pub faults : List Located
   pub are : faults_at faults ≡ faults_in found
-  pub lines : SayInTurn (map (fault_said path (Some ms)) faults) text
+  pub lines : SayInTurn (map (fault_said path (Some ms)) faults) remarks
 
--- a text is a line for each of some of these faults and others, and then how many of them have none
-pub record ShowsList (path : List ℕ) (ms : Members) (listed : List ManifestFault) (others : ℕ) (text : List ℕ) : Type 0 where
+-- there is a remark for each of some of these faults and others, and then how many of them have none
+pub record ShowsList (path : List ℕ) (ms : Members) (listed : List ManifestFault) (others : ℕ) (remarks : List Remark) : Type 0 where
   pub faults : List Located
   pub least : lowest (faults_at faults) ≡ lowest listed
   pub more : ℕ
   pub beside : others ≤ more
   pub within : length faults + more ≤ length listed + others
-  pub lines : SayInTurn (map (fault_said path (Some ms)) faults ++ others_said more) text
+  pub lines : SayInTurn (map (fault_said path (Some ms)) faults ++ others_said more) remarks

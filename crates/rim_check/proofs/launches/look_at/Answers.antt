@@ -16,7 +16,7 @@ pub returns-in-Err : goal.returns-in-Err
 returns-in-Err c =
     let refused = rw c.in-Err.is at c.in_ok-accepted.ensures.reason in
     on_ok_weaker _
-    (λ (line : AddsRefusal c.args.loaded.launch.now c.in-Err.reason c.args.found.now.refusals.items c.push_refusal.new.text.items).
+    (λ (line : AddsRefusal c.args.loaded.launch.now c.in-Err.reason c.args.found.now.refusals.items c.push_refusal.new.remarks.items).
     refused-found (bytes_of_files c.args.loaded.files.now) c.args.loaded.launch.now c.in-Err.reason line.hint c.args.found.now _ refused line.adds refl refl
     refl)
     c.push_refusal.ensures

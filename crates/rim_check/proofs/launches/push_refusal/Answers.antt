@@ -7,5 +7,5 @@ pub returns : goal.returns
 returns c =
     on_ok_weaker _
     (λ (adds : AddsLine (refusal_said c.args.launch.now c.args.reason.now c.as_str.result.now)
-    c.args.text.now.items c.push_refused.new.text.items). record { hint = c.as_str.result.now; adds = adds })
+    c.args.remarks.now.items c.push_refused.new.remarks.items). record { hint = c.as_str.result.now; adds = adds })
     c.push_refused.ensures

@@ -9,9 +9,9 @@ pub returns : goal.returns
 returns c =
     on_ok_weaker _
     (λ (adds : (front detail : Option (List ℕ)) → IsKnown front c.in_ok-before.before.text.items → IsKnown detail c.in_ok-after.after.text.items
-    → AddsLine (record { front = front; word = c.kind.result.now; detail = detail }) c.args.text.now.items c.push_line.new.text.items).
+    → AddsLine (record { front = front; word = c.kind.result.now; detail = detail }) c.args.remarks.now.items c.push_remark.new.remarks.items).
     says-refusal c.args.launch.now c.args.reason.now c.args.hint.now c.name.result.now c.kind.result.now c.in_ok-before.before.text.items c.in_ok-after.after.text.items
-    c.args.text.now.items c.push_line.new.text.items c.fault.result c.config-config.result
+    c.args.remarks.now.items c.push_remark.new.remarks.items c.fault.result c.config-config.result
     c.name.ensures (c.config-config.ensures.value ∙ ap (λ (l : LaunchData). l.config) c.launch.ensures)
     c.fault.ensures c.kind.ensures c.in_ok-before.ensures c.in_ok-after.ensures adds)
-    c.push_line.ensures
+    c.push_remark.ensures

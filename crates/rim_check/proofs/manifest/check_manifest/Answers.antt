@@ -12,7 +12,7 @@ pub returns-in-Err : goal.returns-in-Err
 returns-in-Err c =
     let not_memory : ¬ (IsMemory c.in-Err.error) = λ m. let t : c.is_memory.result ≡ true = c.is_memory.ensures.1 m in false≢true (sym c.if-is_memory.false ∙ t) in
     let none = c.in-Err.ensures.refused not_memory in
-    of-none c.args.path.now c.args.text.now _ none (explains-syntax c.args.path.now c.args.text.now c.in_ok-syntax_line-in-Err.ensures.0 _ none c.in_ok-syntax_line-in-Err.ensures.1)
+    of-none c.args.path.now c.args.text.now _ none (explains-syntax c.args.path.now c.args.text.now c.in_ok-syntax_remark-in-Err.ensures.0 _ none c.in_ok-syntax_remark-in-Err.ensures.1)
 
 pub returns-in-Accepted : goal.returns-in-Accepted
 returns-in-Accepted c =
@@ -26,4 +26,4 @@ returns c =
     let list = c.in-Refused.list in
     let found : AreFound ms (faults_in list.findings.items) list.more = subst (IsChecked ms) c.in-Refused.is c.in_ok-release.ensures in
     of-document c.args.path.now c.args.text.now ms (Err found.fault) _ c.in-Ok.ensures.document found.refused
-    (explains-list c.args.path.now c.args.text.now ms _ _ _ found c.in-Ok.ensures.document c.in_ok-lines-in-Refused.ensures)
+    (explains-list c.args.path.now c.args.text.now ms _ _ _ found c.in-Ok.ensures.document c.in_ok-remarks-in-Refused.ensures)

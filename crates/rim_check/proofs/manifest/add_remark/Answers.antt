@@ -3,7 +3,7 @@ use Rattle.std.proofs.lemmas.Result.{on_ok_weaker}
 use Rattle.toml.specs.View.{table_view}
 use Rattle.rim_line.specs.Lines.{AddsLine, IsKnown}
 use Rattle.rim_check.proofs.FaultPlaces.{says-fault}
-use Rattle.rim_check.proofs.manifest.add_line.Goals as goal
+use Rattle.rim_check.proofs.manifest.add_remark.Goals as goal
 
 pub returns : goal.returns
 returns c =
@@ -11,6 +11,6 @@ returns c =
     let ms = table_view c.args.manifest.now.document.now.table in
     on_ok_weaker _
     (λ (adds : (front detail : Option (List ℕ)) → IsKnown front c.in_ok-before.before.text.items → IsKnown detail c.write_detail.new.line.text.items
-    → AddsLine (record { front = front; word = c.kind.result.now; detail = detail }) c.args.lines.now.items c.push_line.new.text.items).
+    → AddsLine (record { front = front; word = c.kind.result.now; detail = detail }) c.args.remarks.now.items c.push_remark.new.remarks.items).
     says-fault path ms c.args.finding.now c.args.spot _ _ _ _ _ _ _ c.in_ok-place.ensures c.as_str.ensures.value c.kind.ensures c.in_ok-before.ensures adds)
-    c.push_line.ensures
+    c.push_remark.ensures

@@ -2,7 +2,7 @@ use Rattle.std.proofs.Common.{◌∙◌, ◌++◌, ℕ, List, Option, Some, [], 
 use Rattle.std.proofs.lemmas.Result.{on_ok_weaker}
 use Rattle.rim_line.specs.Lines.{AddsLine, IsKnown}
 use Rattle.rim_line.proofs.PlainBytes.{adds-both}
-use Rattle.rim_line.proofs.line.push_file.Goals as goal
+use Rattle.rim_line.proofs.remark.push_file.Goals as goal
 
 pub returns : goal.returns
 returns c =
@@ -16,6 +16,6 @@ returns c =
     λ plain. c.in_ok-push_text-2.ensures plain ∙ ap (λ (old : List ℕ). old ++ c.args.hint.now) c.new-after.ensures in
     on_ok_weaker _
     (λ (adds : (known detail : Option (List ℕ)) → IsKnown known before → IsKnown detail c.push_text-2.new.self.text.items
-    → AddsLine (record { front = known; word = c.args.kind.now; detail = detail }) c.args.text.now.items c.push_line.new.text.items).
+    → AddsLine (record { front = known; word = c.args.kind.now; detail = detail }) c.args.remarks.now.items c.push_remark.new.remarks.items).
     adds (Some (path ++ codes ": ")) (Some c.args.hint.now) front detail)
-    c.push_line.ensures
+    c.push_remark.ensures
