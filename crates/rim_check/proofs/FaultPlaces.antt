@@ -5,17 +5,11 @@ use Rattle.toml.specs.Data.{Members}
 use Rattle.rim_manifest.specs.Faults.{kind_of}
 use Rattle.rim_manifest.specs.declared.finding.Finding.{Finding}
 use Rattle.rim_check.specs.Explained.{fault_front, fault_said}
-use Rattle.rim_check.specs.Fronts.{place_text, spot_text}
+use Rattle.rim_hints.specs.Fronts.{place_text, spot_text}
 use Rattle.rim_check.specs.inside.Listed.{located}
 use Rattle.rim_line.specs.declared.remark.Remark.{Remark}
 use Rattle.rim_line.specs.Lines.{AddsLine, IsKnown}
 use Rattle.rim_spot.specs.declared.spot.Spot.{Spot}
-
--- a table with its key
-pub placed : (table : Option (List ℕ)) (bytes text own : List ℕ) → IfSome table (λ known. bytes ≡ known) → text ≡ bytes ++ own
-    → IfSome (option_map (λ known. known ++ own) table) (λ known. text ≡ known)
-placed None bytes text own same is = tt
-placed (Some known) bytes text own same is = is ∙ ap (λ (front : List ℕ). front ++ own) same
 
 -- what is before a fault's word is known as far as its place is
 pub known-front : (place : Option (List ℕ)) (path spot bytes text : List ℕ) → IfSome place (λ known. bytes ≡ known)

@@ -19,7 +19,7 @@ use Rattle.rim_pages.specs.Pages.{page_keys}
 use Rattle.rim_pages.specs.declared.fault.StartFault.TheVariants as start
 use Rattle.rim_pages.specs.declared.different.TheConstants.{DISTINCT_LIMIT}
 use Rattle.rim_check.specs.Details.{reason_detail}
-use Rattle.rim_check.specs.Fronts.{place_text, spot_text}
+use Rattle.rim_hints.specs.Fronts.{place_text, spot_text}
 use Rattle.rim_line.specs.declared.remark.Remark.{Remark}
 use Rattle.rim_line.specs.Lines.{AddsLine, Saying, SayInTurn, lines_of}
 use Rattle.rim_check.specs.Warned.{ShowsWarnings}

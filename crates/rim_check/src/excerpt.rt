@@ -4,8 +4,8 @@ ghost use Rattle.rim_manifest.specs.Faults.{lowest};
 ghost use Rattle.rim_manifest.specs.inside.Kept.{faults_in};
 
 use crate::finding_detail::lacks_initrd;
-use crate::other_keys::is_meant;
 use refusal::NoMemory;
+use rim_hints::is_meant;
 use rim_manifest::{Document, FaultList, Finding, ManifestFault, Place, Subject, is_lower};
 use rim_rules::form::{Form, Rule};
 use rim_rules::rules::TOP_RULES;

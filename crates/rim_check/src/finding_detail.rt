@@ -1,11 +1,8 @@
 //! What is given and what is expected, where a manifest has a fault.
-use crate::expected::Expected;
-use crate::hint::{element_hint, value_hint};
-use crate::nearest::Nearest;
-use crate::other_keys::write_other_keys;
-use crate::place::text_at;
-use crate::shown::{Shown, bad_element};
-use crate::steps::{write_step, write_steps};
+use rim_hints::{
+    Expected, Nearest, Shown, bad_element, element_hint, text_at, value_hint, write_other_keys,
+    write_step, write_steps,
+};
 use rim_launch::{ITEM_LIMIT, Role};
 use rim_line::{Line, Quoted};
 use rim_manifest::{Document, Finding, ManifestFault, Subject, asks_for, entries, name, role};

@@ -10,11 +10,10 @@ ghost use Rattle.rim_line.specs.Lines.{AddsAll, AddsLine, SayInTurn};
 
 use crate::excerpt::take_excerpt;
 use crate::finding_detail::write_detail;
-use crate::place::{fault_front, place_text};
 use crate::spots::{Manifest, finding_spots};
-use crate::syntax::{error_spot, write_message};
 use itoa::Buffer;
 use refusal::NoMemory;
+use rim_hints::{error_spot, fault_front, place_text, write_message};
 use rim_line::{Line, Remark, push_remark};
 use rim_manifest::{Checked, Document, FaultList, Finding, ManifestFault, Release};
 use rim_spot::Spot;

@@ -1,8 +1,8 @@
 //! The line of a manifest's text that has its first fault, with a mark under it.
 use crate::excerpt::take_excerpt;
 use crate::spots::{Manifest, finding_spots};
-use crate::syntax::error_spot;
 use refusal::NoMemory;
+use rim_hints::error_spot;
 use rim_line::Line;
 use rim_manifest::{Checked, Document};
 use rim_spot::Spot;

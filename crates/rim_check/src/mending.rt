@@ -1,11 +1,11 @@
 //! What helps to mend a launch that is refused, beside the reason. That it is true of the launch is tested alone.
 
 use crate::kernel_front::{KernelFront, front_of};
-use crate::part::Part;
 use fdt_tree::FdtFault;
 use ipa_layout::{Extent, IpaRange, ItemReason, LayoutReason};
 use rim_accepted::LaunchReason;
 use rim_desc::GRANULE_SIZE;
+use rim_hints::Part;
 use rim_launch::{Launch, Region};
 use rmi_list::{ListReason, StepReason};
 use rmm_model::{LEAST_WIDTH, MOST_WIDTH, is_width, protected_end};

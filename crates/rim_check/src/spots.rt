@@ -1,8 +1,7 @@
 //! Where the faults of a manifest are in its text.
 use crate::finding_detail::lacks_initrd;
-use crate::other_keys::rules_of;
-use crate::shown::bad_element;
 use refusal::NoMemory;
+use rim_hints::{bad_element, rules_of};
 use rim_manifest::{Document, Finding, ManifestFault, Place, Subject, asks_for, entries};
 use rim_rules::form::Form;
 use rim_rules::value::cell;

@@ -11,17 +11,17 @@ use Rattle.rim_launch.specs.declared.item.Region.{Region}
 use Rattle.ipa_layout.specs.Layout.{PlacedData}
 use Rattle.rmi_list.specs.Measured.{measured, page_contents}
 use Rattle.rim_manifest.specs.Launches.{NamedData, item_name}
-use Rattle.rim_map.specs.Extensions.{extensions_of}
-use Rattle.rim_map.specs.Granules.{HasGranules}
-use Rattle.rim_map.specs.Rows.{rows_of}
+use Rattle.map_rows.specs.Extensions.{extensions_of}
+use Rattle.map_rows.specs.Granules.{HasGranules}
+use Rattle.map_rows.specs.Rows.{rows_of}
 use Rattle.rim_map.specs.inside.Spaces.{AreTexts, IsSpace}
 use Rattle.rim_map.specs.MapJson.{IsMap, SpaceView, extensions_json, granules_json, item_json, items_json, launch_json}
 use Rattle.rim_map.specs.MapJson.{map_data, path_json, place_json, region_json, regions_json, rule_json, space_of, stretch_json}
-use Rattle.rim_map.specs.Stretches.{AreRising, gaps_of, row_pages}
-use Rattle.rim_map.specs.declared.extensions.Extensions.{Extensions}
-use Rattle.rim_map.specs.declared.granules.Granules.{Granules}
-use Rattle.rim_map.specs.declared.rows.Row.{Row}
-use Rattle.rim_map.specs.declared.stretches.Stretch.{Stretch}
+use Rattle.map_rows.specs.Stretches.{AreRising, gaps_of, row_pages}
+use Rattle.map_rows.specs.declared.extensions.Extensions.{Extensions}
+use Rattle.map_rows.specs.declared.granules.Granules.{Granules}
+use Rattle.map_rows.specs.declared.rows.Row.{Row}
+use Rattle.map_rows.specs.declared.stretches.Stretch.{Stretch}
 
 -- after the last item all were made
 pub items-over : (name : ℕ → List ℕ) (paths : List (List ℕ)) (items : List Item) (rows : List Row) (now all : List Data)

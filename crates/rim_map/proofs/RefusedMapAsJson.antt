@@ -17,10 +17,10 @@ use Rattle.rim_accepted.specs.declared.reason.LaunchReason.TheVariants.{Layout, 
 use Rattle.rim_manifest.specs.Launches.{NamedData, item_name}
 use Rattle.rim_map.specs.MapJson.{SpaceView, launch_json, space_of}
 use Rattle.rim_map.specs.RefusedMap.{IsRefusedMap, ShowsSpace, refused_data, size_json, stated_item_json, stated_items_json, stated_json, stated_of}
-use Rattle.rim_map.specs.Rows.{rows_of}
-use Rattle.rim_map.specs.Stretches.{AreRising, row_pages}
+use Rattle.map_rows.specs.Rows.{rows_of}
+use Rattle.map_rows.specs.Stretches.{AreRising, row_pages}
 use Rattle.rim_map.specs.inside.Spaces.{IsSpace, IsStated}
-use Rattle.rim_map.specs.declared.rows.Row.{Row}
+use Rattle.map_rows.specs.declared.rows.Row.{Row}
 use Rattle.rim_map.proofs.MapAsJson.{items-float, path-float, regions-float, rule-float, stretches-float}
 
 -- one item more

@@ -1,7 +1,3 @@
-pub mod Granules
-pub mod Extensions
-pub mod Rows
-pub mod Stretches
 pub mod MapJson
 pub mod RefusedMap
 pub mod inside

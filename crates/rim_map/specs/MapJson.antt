@@ -16,14 +16,14 @@ use Rattle.ipa_layout.specs.Layout.{PlacedData}
 use Rattle.rmi_list.specs.Measured.{measured, page_contents}
 use Rattle.rim_manifest.specs.Launches.{NamedData, item_name}
 use Rattle.rim_rules.specs.Kinds.{kind_word}
-use Rattle.rim_map.specs.Extensions.{extensions_of}
-use Rattle.rim_map.specs.Granules.{HasGranules}
-use Rattle.rim_map.specs.Rows.{rows_of}
-use Rattle.rim_map.specs.Stretches.{AreRising, IsBetween, gaps_of, row_pages}
-use Rattle.rim_map.specs.declared.extensions.Extensions.{Extensions}
-use Rattle.rim_map.specs.declared.granules.Granules.{Granules}
-use Rattle.rim_map.specs.declared.rows.Row.{Row}
-use Rattle.rim_map.specs.declared.stretches.Stretch.{Stretch}
+use Rattle.map_rows.specs.Extensions.{extensions_of}
+use Rattle.map_rows.specs.Granules.{HasGranules}
+use Rattle.map_rows.specs.Rows.{rows_of}
+use Rattle.map_rows.specs.Stretches.{AreRising, IsBetween, gaps_of, row_pages}
+use Rattle.map_rows.specs.declared.extensions.Extensions.{Extensions}
+use Rattle.map_rows.specs.declared.granules.Granules.{Granules}
+use Rattle.map_rows.specs.declared.rows.Row.{Row}
+use Rattle.map_rows.specs.declared.stretches.Stretch.{Stretch}
 
 abbrev pub count : ℕ → Data
 count n = number (unsigned n)

@@ -1,5 +1,5 @@
 -- The map of a launch that is refused, as lines and as JSON. Members are in the order of their keys. This project's choice.
-use Rattle.std.specs.Prelude.{◌≡◌, ℕ, ◌+◌, Bool, true, ◌==◌, List, [], ◌∷◌, ◌++◌, codes, map, Option, Some, None, option_and_then}
+use Rattle.std.specs.Prelude.{◌≡◌, ℕ, ◌+◌, true, List, [], ◌∷◌, ◌++◌, codes, map, Option, Some, None, option_and_then}
 use Rattle.std.specs.List.{slice_get}
 use Rattle.std.specs.Str.Lossy.{utf8_lossy}
 use Rattle.serde_json.specs.Data.{Data, array, boolean, member, no_members, null, object, string}
@@ -14,17 +14,12 @@ use Rattle.rim_accepted.specs.declared.reason.LaunchReason.TheVariants.{Layout, 
 use Rattle.rim_manifest.specs.Launches.{NamedData, item_name}
 use Rattle.rim_rules.specs.Kinds.{kind_word}
 use Rattle.rim_map.specs.MapJson.{SpaceView, count, launch_json, path_json, regions_json, space_of, stretch_json}
-use Rattle.rim_map.specs.Rows.{rows_of}
-use Rattle.rim_map.specs.Stretches.{AreRising, IsBetween, row_pages}
-use Rattle.rim_map.specs.declared.stretches.Stretch.{Stretch}
+use Rattle.map_text.specs.Lines.{are_lines}
+use Rattle.map_rows.specs.Rows.{rows_of}
+use Rattle.map_rows.specs.Stretches.{AreRising, IsBetween, row_pages}
+use Rattle.map_rows.specs.declared.stretches.Stretch.{Stretch}
 
 -- ---- as lines
-
--- whether a text is whole lines: nothing, or with a line feed at its end
-abbrev pub are_lines : List ℕ → Bool
-are_lines [] = true
-are_lines (b ∷ []) = b == 10
-are_lines (b ∷ c ∷ rest) = are_lines (c ∷ rest)
 
 -- a text ends with this line, which has its line feed
 pub record EndsWithLine (line text : List ℕ) : Type 0 where

@@ -9,16 +9,14 @@ ghost use Rattle.rim_map.specs.MapJson.{IsMap, count, extensions_json, granules_
 ghost use Rattle.rim_map.specs.inside.Shared.{with_space};
 ghost use Rattle.rim_map.specs.inside.Spaces.{AreTexts, IsSpace, seen_space};
 
-use crate::extensions::{Extensions, count_extensions};
-use crate::granules::{Granules, count_granules};
 use crate::json_parts::{
     extensions_value, granules_value, item_values, launch_value, region_values, stretch_values,
 };
 use crate::members::{Members, put_count, put_values};
-use crate::rows::{Row, item_rows};
-use crate::shown::Shown;
-use crate::stretches::{between, taken};
-use crate::warnings::warnings;
+use map_rows::{
+    Extensions, Granules, Row, Shown, between, count_extensions, count_granules, item_rows, taken,
+};
+use map_text::warning_lines;
 use refusal::NoMemory;
 use rim_accepted::{AcceptedLaunch, ListedLaunch};
 use rim_launch::Config;
@@ -169,7 +167,7 @@ pub(crate) fn put_head(
 fn warning_values(alloc: Global, accepted: &AcceptedLaunch<'_>) -> Result<Vec<Value>, NoMemory>
     ensures { IfOk result (λ values. AreTexts (map view values.items)) }
 {
-    let lines = warnings(alloc, accepted)?;
+    let lines = warning_lines(alloc, accepted)?;
     Ok(line_values(alloc, &lines)?)
 }
 

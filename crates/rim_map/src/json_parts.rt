@@ -3,17 +3,12 @@ ghost use Rattle.std.specs.Prelude.{◌≡◌, ◌<◌, [], ◌∷◌, IfOk, OnO
 ghost use Rattle.serde_json.specs.Data.{array, no_members, object, put as with_member};
 ghost use Rattle.serde_json.specs.View.{items_of, members_view, view};
 ghost use Rattle.rim_manifest.specs.Launches.{item_name};
-ghost use Rattle.rim_map.specs.Stretches.{gaps_of};
+ghost use Rattle.map_rows.specs.Stretches.{gaps_of};
 ghost use Rattle.rim_map.specs.inside.Shared.{item_members};
 ghost use Rattle.rim_map.specs.MapJson.{count, extensions_json, granules_json, item_json, items_json, launch_json, path_json, place_json, region_json, regions_json, rule_json, stretch_json};
 
-use crate::extensions::Extensions;
-use crate::files::path_of;
-use crate::granules::Granules;
 use crate::members::{Members, put_count, put_flag, put_text, put_values};
-use crate::rows::Row;
-use crate::shown::Shown;
-use crate::stretches::{Stretch, gaps};
+use map_rows::{Extensions, Granules, Row, Shown, Stretch, gaps, path_of};
 use rim_desc::{GRANULE_SIZE, RecRule};
 use rim_launch::{Config, Item, Region};
 use rim_manifest::NamedLaunch;

@@ -11,15 +11,11 @@ ghost use Rattle.rim_manifest.specs.Launches.{item_name};
 ghost use Rattle.rim_map.specs.RefusedMap.{EndsWithLine, IsRefusedMap, ShowsSpace, refused_data, size_json, stated_item_json, stated_items_json, stated_json};
 ghost use Rattle.rim_map.specs.inside.Spaces.{IsStated, seen_space};
 
-use crate::columns::Lines;
 use crate::json::{Space, placed_space, put_head, put_space, text, text_value};
 use crate::json_parts::{put_item, region_values, stretch_values};
 use crate::members::{Members, put_count, put_text};
-use crate::picture::{push_ram, push_space, push_stated};
-use crate::rows::item_rows;
-use crate::shown::Shown;
-use crate::stretches::between;
-use crate::text::push_head;
+use map_rows::{Shown, between, item_rows};
+use map_text::{Lines, push_head, push_ram, push_space, push_stated};
 use refusal::NoMemory;
 use rim_accepted::LaunchReason;
 use rim_launch::Item;

@@ -5,10 +5,10 @@ use Rattle.serde_json.specs.View.{view}
 use Rattle.rim_manifest.specs.Launches.{NamedData}
 use Rattle.rim_map.specs.MapJson.{SpaceView, space_of}
 use Rattle.rim_map.specs.RefusedMap.{stated_of}
-use Rattle.rim_map.specs.Stretches.{AreRising, IsBetween, row_pages}
+use Rattle.map_rows.specs.Stretches.{AreRising, IsBetween, row_pages}
 use Rattle.rim_map.specs.declared.json.Space.{Space}
-use Rattle.rim_map.specs.declared.rows.Row.{Row}
-use Rattle.rim_map.specs.declared.stretches.Stretch.{Stretch}
+use Rattle.map_rows.specs.declared.rows.Row.{Row}
+use Rattle.map_rows.specs.declared.stretches.Stretch.{Stretch}
 
 abbrev pub seen_space : Space → SpaceView
 seen_space s = record { gaps = map view s.gaps.items; items = map view s.items.items; regions = map view s.regions.items }

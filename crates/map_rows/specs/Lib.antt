@@ -1,0 +1,5 @@
+pub mod Granules
+pub mod Extensions
+pub mod Rows
+pub mod Stretches
+pub mod inside

@@ -1,0 +1,2 @@
+-- a text with a line feed at its end is whole lines
+pub mod LastLine

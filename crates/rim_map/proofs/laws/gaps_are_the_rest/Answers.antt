@@ -1,8 +1,0 @@
-use Rattle.rim_map.proofs.GapsAreTheRest.{inside, rest}
-use Rattle.rim_map.proofs.laws.gaps_are_the_rest.Goals as goal
-
-pub returns-clause-rest : goal.returns-clause-rest
-returns-clause-rest c = rest
-
-pub returns-clause-inside : goal.returns-clause-inside
-returns-clause-inside c = inside

@@ -1,7 +1,0 @@
-use Rattle.std.proofs.Common.{◌≡◌, map, take}
-use Rattle.rim_map.specs.Stretches.{region_stretch}
-use Rattle.rim_map.proofs.stretches.rising_regions.Given as goal
-
--- the regions so far
-abbrev pub invariant-loop-region : goal.invariant-loop-region
-invariant-loop-region l = l.regions.items ≡ map region_stretch (take l.region-index l.ram)

@@ -1,7 +1,0 @@
-use Rattle.std.proofs.Common.{◌≡◌, map, take}
-use Rattle.rim_map.specs.Stretches.{row_pages}
-use Rattle.rim_map.proofs.stretches.taken.Given as goal
-
--- the pages of the rows so far
-abbrev pub invariant-loop-row : goal.invariant-loop-row
-invariant-loop-row l = l.taken.items ≡ map row_pages (take l.row-index l.rows)

@@ -1,9 +1,0 @@
-//! What a map shows.
-use rim_manifest::{NamedLaunch, Release};
-
-/// A launch that is shown, with its names, and its release, which has the paths of its files.
-#[derive(Clone, Copy)]
-pub(crate) struct Shown<'a> {
-    pub release: &'a Release,
-    pub launch: &'a NamedLaunch,
-}
