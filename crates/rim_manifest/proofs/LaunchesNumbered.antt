@@ -9,10 +9,10 @@ use Rattle.rim_launch.specs.LaunchData.{has_files}
 use Rattle.std.specs.List.{list_all, list_any}
 use Rattle.std.proofs.lemmas.Bool.{lt-ltb, or_parts, not-false}
 use Rattle.rim_launch.specs.Kinds.{file_of, is_below}
-use Rattle.rim_manifest.specs.Items.{item_of}
-use Rattle.rim_manifest.specs.Names.{file_at, has_file, is_named, lacks_file, lacks_its_file, needs_file, role_at}
+use Rattle.rim_rules.specs.Items.{item_of}
+use Rattle.rim_rules.specs.Names.{file_at, has_file, is_named, lacks_file, lacks_its_file, needs_file, role_at}
 use Rattle.rim_rules.specs.Values.{array_at, text_in}
-use Rattle.rim_manifest.proofs.ItemsFromTables.{file_of-kind, found_below}
+use Rattle.rim_rules.proofs.ItemsFromTables.{file_of-kind, found_below}
 use Rattle.rim_rules.specs.declared.version.FormatVersion.{FormatVersion}
 use Rattle.rim_manifest.specs.Launches.{AreNumbered, NamedData, ReleaseData, launch_of, launches_from}
 

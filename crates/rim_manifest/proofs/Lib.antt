@@ -9,8 +9,6 @@ pub mod LowestFault
 pub mod FaultsInTurn
 -- launches are read in turn, each with its place as its number
 pub mod LaunchesNumbered
--- what is found among tables, and the kind of item that each reads as
-pub mod ItemsFromTables
 -- (items are decided by their values)
 pub mod SameItem
 -- where no fault holds, and only then, what is read fits the type of a launch

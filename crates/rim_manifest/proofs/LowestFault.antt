@@ -17,7 +17,7 @@ use Rattle.rim_manifest.specs.Checks.{cell_faults, has_unknown_key, rule_faults,
 use Rattle.rim_manifest.specs.Manifest.{all_faults, fault_or_named, fault_or_release, files_at, has_no_file, has_two_names, item_faults, launch_faults}
 use Rattle.rim_manifest.specs.Manifest.{launches_at, manifest_faults, name_faults, read_of}
 use Rattle.rim_rules.specs.Kinds.{rules_of}
-use Rattle.rim_manifest.specs.Names.{has_asked, role_at}
+use Rattle.rim_rules.specs.Names.{has_asked, role_at}
 use Rattle.rim_manifest.specs.StepTexts.{has_bad_steps}
 use Rattle.rim_rules.specs.Values.{array_at}
 

@@ -21,19 +21,19 @@ use Rattle.rim_launch.proofs.DefaultStepsComplete.{default-complete}
 use Rattle.rim_manifest.specs.declared.fault.ManifestFault.{ManifestFault}
 use Rattle.rim_manifest.specs.declared.fault.ManifestFault.TheVariants.{BadStep}
 use Rattle.rim_rules.specs.declared.form.Presence.TheVariants.{Optional}
-use Rattle.rim_manifest.specs.Items.{item_of}
+use Rattle.rim_rules.specs.Items.{item_of}
 use Rattle.rim_manifest.specs.Launches.{NamedData, config_of, items_of, launch_of, launches_from, ram_of, rec_of, recs_of, region_in}
 use Rattle.rim_rules.specs.Forms.{items_of as values_of}
 use Rattle.rim_manifest.specs.StepTexts.{is_misnamed, misnames, step_in, steps_in}
 use Rattle.rim_rules.specs.Versions.{version_at}
 use Rattle.rim_rules.specs.declared.version.FormatVersion.{FormatVersion}
 use Rattle.rim_rules.specs.Values.{array_at}
-use Rattle.rim_manifest.specs.Names.{has_asked, kinds_once, repeats, share_names}
+use Rattle.rim_rules.specs.Names.{has_asked, kinds_once, repeats, share_names}
 use Rattle.rim_manifest.specs.Manifest.{all_made, files_at, has_two_names, launch_faults, launches_at, launches_of, made, manifest_faults}
 use Rattle.rim_manifest.specs.Faults.{lowest}
 use Rattle.rim_manifest.proofs.LowestFault.{none_noted}
 use Rattle.rim_manifest.proofs.TablesWithoutFaults.{TopIsGood, empty_parts, few_regions, few_tables, good_launch, good_top}
-use Rattle.rim_manifest.proofs.ItemsFromTables.{count-items, initrd-items, memory-items}
+use Rattle.rim_rules.proofs.ItemsFromTables.{count-items, initrd-items, memory-items}
 
 -- ---- no fault
 

@@ -30,8 +30,8 @@ use Rattle.rim_manifest.specs.StepTexts.{has_bad_steps, is_miscounted, is_misnam
 use Rattle.rim_manifest.proofs.StepsAsSpelled.{texts_given}
 use Rattle.rim_launch.specs.declared.item.Role.{Role}
 use Rattle.rim_launch.specs.declared.item.Role.TheVariants.{Kernel, Initrd, Dtb, Raw, Unknown}
-use Rattle.rim_manifest.specs.Items.{bootargs_in, item_of, kind_of, measured_for, size_for}
-use Rattle.rim_manifest.specs.Names.{file_at, has_file, is_named, lacks_file, lacks_its_file, name_of, needs_file, role_at}
+use Rattle.rim_rules.specs.Items.{bootargs_in, item_of, kind_of, measured_for, size_for}
+use Rattle.rim_rules.specs.Names.{file_at, has_file, is_named, lacks_file, lacks_its_file, name_of, needs_file, role_at}
 use Rattle.rim_rules.specs.Kinds.{kind_word, rules_of}
 use Rattle.rim_rules.specs.Rules.{added_rules, dtb_rules, file_rules, item_rules, launch_rules, launch_rules_2, rec_rules, unknown_rules, number_rule}
 use Rattle.rim_desc.specs.Numbers.{Number, rmm_1_0}
@@ -40,7 +40,7 @@ use Rattle.rim_rules.specs.declared.version.FormatVersion.{FormatVersion}
 use Rattle.rim_rules.specs.declared.version.FormatVersion.TheVariants.{One, Two}
 use Rattle.rim_manifest.proofs.TablesWithoutFaults.{all_first, all_tables, each_value, empty_parts, few_regions, good_launch, good_top, good_value}
 use Rattle.rim_manifest.proofs.TablesWithoutFaults.{not_faulty, not_given}
-use Rattle.rim_manifest.proofs.ItemsFromTables.{found_there, role_of-kind}
+use Rattle.rim_rules.proofs.ItemsFromTables.{found_there, role_of-kind}
 use Rattle.rim_rules.proofs.ListsOfValues.{list_any_map}
 use Rattle.rim_manifest.proofs.LowestFault.{none_noted}
 use Rattle.rim_desc.specs.Measurement.{algo_word}

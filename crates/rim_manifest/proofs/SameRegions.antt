@@ -7,7 +7,7 @@ use mathlib.Core.HLevel.{is_prop→PathP}
 use Rattle.rim_launch.specs.declared.item.Region.{Region}
 use Rattle.rim_rules.specs.Forms.{is_region}
 use Rattle.rim_manifest.specs.Launches.{region_of}
-use Rattle.rim_manifest.specs.inside.NumberRanges.{region_if}
+use Rattle.rim_rules.specs.inside.NumberRanges.{region_if}
 
 same_region : (a b : Region) → a.base ≡ b.base → a.end ≡ b.end → a ≡ b
 same_region a b base end = λ i. record {

@@ -14,12 +14,12 @@ use Rattle.rim_launch.specs.declared.step.Step.{Step}
 use Rattle.rim_launch.specs.declared.step.Step.TheVariants as step
 use Rattle.rim_rules.specs.Forms.{is_text}
 use Rattle.rim_manifest.specs.Given.{EachGives, GivesStep, SpellsNumber, SpellsStep}
-use Rattle.rim_manifest.specs.Names.{is_named, name_of}
+use Rattle.rim_rules.specs.Names.{is_named, name_of}
 use Rattle.rim_manifest.specs.StepTexts.{decimal_number, is_decimal, item_number, or_else, step_in, step_of}
 use Rattle.rim_rules.specs.Kinds.{step_front}
 use Rattle.rim_rules.specs.declared.kind.StepKind.TheVariants as about
 use Rattle.rim_rules.specs.Words.{after}
-use Rattle.rim_manifest.proofs.ItemsFromTables.{found_at}
+use Rattle.rim_rules.proofs.ItemsFromTables.{found_at}
 
 -- what follows some first bytes
 followed : (first text rest : List ℕ) → after first text ≡ Some rest → text ≡ first ++ rest

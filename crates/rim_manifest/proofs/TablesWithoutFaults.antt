@@ -16,7 +16,7 @@ use Rattle.rim_rules.specs.declared.form.Presence.{Presence}
 use Rattle.rim_manifest.specs.Faults.{fault_if}
 use Rattle.rim_rules.specs.Forms.{has_kind, is_over, is_table, is_within, items_in, items_list}
 use Rattle.rim_manifest.specs.Manifest.{files_at, item_faults, launch_faults, launches_at, manifest_faults}
-use Rattle.rim_manifest.specs.Names.{has_asked}
+use Rattle.rim_rules.specs.Names.{has_asked}
 use Rattle.rim_rules.specs.Values.{array_at}
 use Rattle.rim_manifest.specs.Checks.{cell_faults, has_unknown_key, is_known, rule_faults, ruled_faults, table_faults, value_faults}
 use Rattle.rim_desc.specs.Numbers.{rmm_1_0}

@@ -31,7 +31,7 @@ use Rattle.rim_manifest.specs.Checks.{cell_faults}
 use Rattle.rim_launch.specs.Texts.{has_no_zero}
 use Rattle.rim_launch.specs.declared.item.Role.{Role}
 use Rattle.rim_launch.specs.declared.item.Role.TheVariants.{Kernel, Initrd, Dtb, Raw, Unknown}
-use Rattle.rim_manifest.specs.Items.{bootargs_in, size_in}
+use Rattle.rim_rules.specs.Items.{bootargs_in, size_in}
 use Rattle.rim_rules.specs.Kinds.{kind_of_word, kind_word}
 use Rattle.rim_rules.specs.Versions.{rule_in}
 use Rattle.rim_rules.specs.declared.version.FormatVersion.TheVariants.{Two}

@@ -13,7 +13,7 @@ use Rattle.rim_launch.specs.Steps.{default_steps}
 use Rattle.rim_launch.specs.declared.step.Step.{Step}
 use Rattle.rim_launch.specs.declared.step.Step.TheVariants as step
 use Rattle.rim_rules.specs.Forms.{items_of}
-use Rattle.rim_manifest.specs.Names.{name_of}
+use Rattle.rim_rules.specs.Names.{name_of}
 use Rattle.rim_manifest.specs.StepTexts.{is_decimal}
 use Rattle.rim_launch.specs.declared.item.Edits.{Edits}
 use Rattle.rim_launch.specs.declared.item.Item.{Item}

@@ -8,13 +8,13 @@ use Rattle.rim_launch.specs.declared.item.Item.{Item}
 use Rattle.rim_launch.specs.declared.item.Region.{Region}
 use Rattle.rim_launch.specs.declared.rec.Rec.{Rec}
 use Rattle.rim_rules.specs.Forms.{is_region}
-use Rattle.rim_manifest.specs.Items.{item_of}
-use Rattle.rim_manifest.specs.Names.{name_of}
+use Rattle.rim_rules.specs.Items.{item_of}
+use Rattle.rim_rules.specs.Names.{name_of}
 use Rattle.rim_manifest.specs.StepTexts.{steps_in}
 use Rattle.rim_rules.specs.declared.version.FormatVersion.{FormatVersion}
 use Rattle.rim_rules.specs.Versions.{rule_for}
 use Rattle.rim_rules.specs.Values.{algorithm_in, array_at, base_in, digits_in, number_in, text_in, truth_in, whole_in, word_in, words_in}
-use Rattle.rim_manifest.specs.inside.NumberRanges.{base_aligned, base_low, number_from, number_to, number_within, region_if}
+use Rattle.rim_rules.specs.inside.NumberRanges.{base_aligned, base_low, number_from, number_to, number_within, region_if}
 use Rattle.rim_desc.specs.Numbers.{Number, numbers_from, rmm_1_0}
 use Rattle.rim_desc.specs.declared.numbers.RealmNumbers.{RealmNumbers}
 use Rattle.rim_desc.specs.declared.rec.TheConstants.{AUX_LIMIT}

@@ -1,8 +1,6 @@
 pub mod Faults
 pub mod Checks
-pub mod Names
 pub mod inside
-pub mod Items
 pub mod StepTexts
 pub mod Launches
 pub mod Manifest

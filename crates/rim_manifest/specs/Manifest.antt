@@ -10,7 +10,7 @@ use Rattle.rim_manifest.specs.declared.fault.ManifestFault.TheVariants.{Syntax, 
 use Rattle.rim_launch.specs.LaunchData.{is_launch}
 use Rattle.rim_manifest.specs.Faults.{fault_if, lowest}
 use Rattle.rim_rules.specs.Forms.{items_in}
-use Rattle.rim_manifest.specs.Names.{has_asked, lacks_file, repeats, role_at, share_names}
+use Rattle.rim_rules.specs.Names.{has_asked, lacks_file, repeats, role_at, share_names}
 use Rattle.rim_rules.specs.Rules.{file_rules, rec_rules, top_rules}
 use Rattle.rim_rules.specs.Kinds.{rules_of}
 use Rattle.rim_manifest.specs.StepTexts.{has_bad_steps}

@@ -8,7 +8,7 @@ use Rattle.rim_launch.specs.declared.item.Item.{Item}
 use Rattle.rim_launch.specs.declared.step.Step.{Step}
 use Rattle.rim_launch.specs.declared.step.Step.TheVariants as step
 use Rattle.rim_rules.specs.Forms.{items_of}
-use Rattle.rim_manifest.specs.Names.{is_named}
+use Rattle.rim_rules.specs.Names.{is_named}
 use Rattle.rim_rules.specs.Kinds.{step_front}
 use Rattle.rim_rules.specs.declared.kind.StepKind.TheVariants as about
 use Rattle.rim_rules.specs.Values.{array_at, text_in}

@@ -1,3 +1,2 @@
-pub mod NumberRanges
 pub mod Kept
 pub mod Findings

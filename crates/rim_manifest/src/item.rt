@@ -2,11 +2,11 @@
 ghost use Rattle.std.specs.Prelude.{◌≡◌, IfOk, map};
 ghost use Rattle.toml.specs.Data.{get};
 ghost use Rattle.toml.specs.View.{view};
-ghost use Rattle.rim_manifest.specs.Items.{bootargs_in, edits_of, item_of, kind_of, measured_for, size_for, size_in};
-ghost use Rattle.rim_manifest.specs.Names.{role_at};
+ghost use Rattle.rim_rules.specs.Items.{bootargs_in, edits_of, item_of, kind_of, measured_for, size_for, size_in};
+ghost use Rattle.rim_rules.specs.Names.{role_at};
 
-use crate::names::{file_number, role};
 use rim_launch::{Bootargs, Edits, Item, ItemKind, Role};
+use rim_rules::names::{file_number, role};
 use rim_rules::value::{field, number, truth};
 use std::alloc::{AllocError, Global};
 use toml::Value;
@@ -26,7 +26,7 @@ pub fn read_items(alloc: Global, files: &[Value], tables: &[Value]) -> Result<Ve
     Ok(items)
 }
 
-#[tactic(auto, unfolding(crate::specs::Items::item_of))]
+#[tactic(auto, unfolding(rim_rules::specs::Items::item_of))]
 fn read_item(alloc: Global, files: &[Value], table: &Value) -> Result<Item, AllocError>
     ensures { IfOk result (λ i. i ≡ item_of (map view files.now) (view table.now)) }
 {

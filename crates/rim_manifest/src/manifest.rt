@@ -9,7 +9,7 @@ ghost use Rattle.rim_manifest.specs.Launches.{AreNumbered, ReleaseData, launches
 ghost use Rattle.rim_rules.specs.Forms.{items_in};
 ghost use Rattle.rim_manifest.specs.Manifest.{all_made, item_faults, launch_faults, manifest_faults, manifest_of, name_in, named_of};
 ghost use Rattle.rim_manifest.specs.StepTexts.{is_miscounted};
-ghost use Rattle.rim_manifest.specs.Names.{lacks_file, repeats, share_names};
+ghost use Rattle.rim_rules.specs.Names.{lacks_file, repeats, share_names};
 ghost use Rattle.rim_manifest.specs.inside.Findings.{kept};
 ghost use Rattle.rim_manifest.specs.inside.Kept.{with_faults};
 
@@ -17,12 +17,12 @@ use crate::check::{at_key, check_ruled, check_table, check_tables};
 use crate::fault::ManifestFault;
 use crate::finding::{Array, Finding, Findings, Place, Subject, note_if};
 use crate::launch::{NamedLaunch, read_launch};
-use crate::names::{has_asked, lacks_file, repeats, role, share_names};
 use crate::step::is_miscounted;
 use crate::texts::read_texts;
 use refusal::NoMemory;
 use rim_rules::form::Form;
 use rim_rules::kind::item_rules;
+use rim_rules::names::{has_asked, lacks_file, repeats, role, share_names};
 use rim_rules::rules::{FILE_RULES, REC_RULES, TOP_RULES};
 use rim_rules::value::{array, cell, items};
 use rim_rules::version::{FormatVersion, has_version, lacks_rule, launch_rules, version};

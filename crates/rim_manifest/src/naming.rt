@@ -3,12 +3,12 @@
 use crate::fault::ManifestFault;
 use crate::finding::{Array, Finding, Findings, Place, Subject, note, note_if};
 use crate::manifest::entries;
-use crate::names::{lacks_its_file, name, position_of, role};
 use crate::step::{is_miscounted, step};
 use refusal::NoMemory;
 use rim_launch::Step;
 use rim_rules::form::Form;
 use rim_rules::kind::may_repeat;
+use rim_rules::names::{lacks_its_file, name, position_of, role};
 use rim_rules::value::{array, field, items};
 use toml::{Table, Value};
 

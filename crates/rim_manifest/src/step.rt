@@ -6,10 +6,10 @@ ghost use Rattle.rim_manifest.specs.StepTexts.{decimal_number, part_count, is_de
 ghost use Rattle.rim_rules.specs.Values.{array_at};
 ghost use Rattle.rim_rules.specs.Words.{after};
 
-use crate::names::position_of;
 use refusal::NoMemory;
 use rim_launch::{Item, REGION_LIMIT, Rec, Region, Step, default_steps};
 use rim_rules::kind::StepKind;
+use rim_rules::names::position_of;
 use rim_rules::value::{array, field, items};
 use rim_rules::word::{after, are_digits, spelled};
 use std::alloc::{AllocError, Global};

@@ -3,3 +3,5 @@
 pub mod ListsOfValues
 -- (a number of at most 16 digits has room in 64 bits, digit by digit)
 pub mod RoomForDigits
+-- what is found among tables, and the kind of item that each reads as
+pub mod ItemsFromTables

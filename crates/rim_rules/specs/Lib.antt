@@ -4,3 +4,6 @@ pub mod Kinds
 pub mod Rules
 pub mod Values
 pub mod Versions
+pub mod Names
+pub mod Items
+pub mod inside

@@ -4,6 +4,7 @@
 pub mod form;
 pub mod kind;
 pub mod laws;
+pub mod names;
 pub mod rules;
 pub mod value;
 pub mod version;

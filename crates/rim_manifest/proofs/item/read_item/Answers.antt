@@ -3,9 +3,9 @@ use Rattle.std.specs.Prelude.{unwrap_or}
 use Rattle.toml.specs.Data.{get}
 use Rattle.toml.specs.View.{view}
 use Rattle.rim_launch.specs.Whole.{is_whole}
-use Rattle.rim_manifest.specs.Items.{is_whole_for, item_of, kind_of, measured_for, size_for, size_within}
-use Rattle.rim_manifest.specs.Names.{role_at}
-use Rattle.rim_manifest.specs.inside.NumberRanges.{number_low}
+use Rattle.rim_rules.specs.Items.{is_whole_for, item_of, kind_of, measured_for, size_for, size_within}
+use Rattle.rim_rules.specs.Names.{role_at}
+use Rattle.rim_rules.specs.inside.NumberRanges.{number_low}
 use Rattle.rim_manifest.proofs.SameItem.{same_item}
 use Rattle.rim_manifest.proofs.item.read_item.Goals as goal
 

@@ -1,6 +1,6 @@
 use Rattle.std.proofs.Common.{◌≡◌, map, take}
 use Rattle.toml.specs.View.{view}
-use Rattle.rim_manifest.specs.Items.{item_of}
+use Rattle.rim_rules.specs.Items.{item_of}
 use Rattle.rim_manifest.proofs.item.read_items.Given as goal
 
 abbrev pub invariant-loop-table : goal.invariant-loop-table

@@ -3,7 +3,7 @@ use Rattle.toml.specs.Data.{get}
 use Rattle.toml.specs.View.{view}
 use Rattle.rim_launch.proofs.SameConfigs.{same-config}
 use Rattle.rim_manifest.specs.Launches.{config_of}
-use Rattle.rim_manifest.specs.inside.NumberRanges.{base_aligned, base_low, is_within, number_from, number_to, number_within}
+use Rattle.rim_rules.specs.inside.NumberRanges.{base_aligned, base_low, is_within, number_from, number_to, number_within}
 use Rattle.rim_manifest.proofs.launch.read_config.Goals as goal
 
 pub invariant_of-result : goal.invariant_of-result

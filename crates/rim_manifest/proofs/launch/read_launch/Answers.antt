@@ -6,8 +6,8 @@ use Rattle.rim_rules.specs.Values.{array_at}
 use Rattle.rim_launch.specs.declared.item.Item.{Item}
 use Rattle.rim_launch.specs.declared.item.Region.{Region}
 use Rattle.rim_launch.specs.declared.rec.Rec.{Rec}
-use Rattle.rim_manifest.specs.Items.{item_of}
-use Rattle.rim_manifest.specs.Names.{name_of}
+use Rattle.rim_rules.specs.Items.{item_of}
+use Rattle.rim_rules.specs.Names.{name_of}
 use Rattle.rim_manifest.specs.Launches.{launch_of, rec_of, region_in}
 use Rattle.rim_manifest.proofs.MadeWithoutFaults.{none_made, parts_read, some_made}
 use Rattle.rim_rules.proofs.ListsOfValues.{map_of_views}

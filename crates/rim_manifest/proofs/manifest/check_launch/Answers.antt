@@ -10,7 +10,7 @@ use Rattle.rim_manifest.specs.declared.fault.ManifestFault.TheVariants.{MissingK
 use Rattle.rim_manifest.specs.Checks.{ruled_faults, table_faults}
 use Rattle.rim_manifest.specs.Faults.{fault_if}
 use Rattle.rim_manifest.specs.Manifest.{item_faults, launch_faults}
-use Rattle.rim_manifest.specs.Names.{has_asked}
+use Rattle.rim_rules.specs.Names.{has_asked}
 use Rattle.rim_rules.specs.Rules.{Rule, rec_rules}
 use Rattle.rim_rules.specs.Versions.{lacks_rule, launch_rules_in}
 use Rattle.rim_rules.specs.declared.version.FormatVersion.{FormatVersion}

@@ -10,7 +10,7 @@ use Rattle.rim_rules.specs.Versions.{version_at}
 use Rattle.rim_rules.specs.declared.version.FormatVersion.{FormatVersion}
 use Rattle.rim_manifest.specs.Manifest.{all_made, files_at, has_no_file, has_two_names, launches_at, path_of}
 use Rattle.rim_manifest.specs.StepTexts.{has_bad_steps, is_miscounted, is_misnamed}
-use Rattle.rim_manifest.specs.Names.{lacks_file, repeats, share_names}
+use Rattle.rim_rules.specs.Names.{lacks_file, repeats, share_names}
 use Rattle.rim_manifest.proofs.ReadStepByStep.{named, no_name_fault, refused_steps, refused_twice, refused_without}
 use Rattle.rim_manifest.proofs.MadeWithoutFaults.{all_read, all_refused}
 use Rattle.rim_rules.proofs.ListsOfValues.{list_any_map}

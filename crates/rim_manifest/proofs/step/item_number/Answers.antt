@@ -1,6 +1,6 @@
 use Rattle.toml.specs.View.{view}
-use Rattle.rim_manifest.specs.Names.{is_named}
-use Rattle.rim_manifest.proofs.ItemsFromTables.{position-map}
+use Rattle.rim_rules.specs.Names.{is_named}
+use Rattle.rim_rules.proofs.ItemsFromTables.{position-map}
 use Rattle.rim_manifest.proofs.step.item_number.Goals as goal
 
 pub returns-in-Some : goal.returns-in-Some

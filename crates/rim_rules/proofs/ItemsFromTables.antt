@@ -10,8 +10,8 @@ use Rattle.toml.specs.Data.{Data}
 use Rattle.rim_launch.specs.Kinds.{count_of, file_of, has_role, is_role, needs_initrd, needs_memory, role_of}
 use Rattle.rim_launch.specs.declared.item.Role.{Role}
 use Rattle.rim_launch.specs.declared.item.Role.TheVariants.{Kernel, Initrd, Dtb, Raw, Unknown}
-use Rattle.rim_manifest.specs.Items.{edits_of, item_of, kind_of}
-use Rattle.rim_manifest.specs.Names.{file_at, is_at_role, needs_file, role_at, role_count}
+use Rattle.rim_rules.specs.Items.{edits_of, item_of, kind_of}
+use Rattle.rim_rules.specs.Names.{file_at, is_at_role, needs_file, role_at, role_count}
 
 place-map : {X Y : Type 0} (p : Y → Bool) (f : X → Y) (xs : List X) → position_or_len p (map f xs) ≡ position_or_len (λ x. p (f x)) xs
 place-map p f [] = refl

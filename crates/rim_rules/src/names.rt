@@ -2,11 +2,11 @@
 ghost use Rattle.std.specs.Prelude.{◌≡◌, map, position};
 ghost use Rattle.std.specs.List.{list_any};
 ghost use Rattle.toml.specs.View.{view};
-ghost use Rattle.rim_manifest.specs.Names.{asks_for, file_at, has_asked, has_file, is_at_role, is_named, kinds_once, lacks_file, lacks_its_file, name_of, needs_file, repeats, role_at, role_count, share_names};
+ghost use Rattle.rim_rules.specs.Names.{asks_for, file_at, has_asked, has_file, is_at_role, is_named, kinds_once, lacks_file, lacks_its_file, name_of, needs_file, repeats, role_at, role_count, share_names};
 
+use crate::kind::kind_of_word;
+use crate::value::{array, text, truth};
 use rim_launch::Role;
-use rim_rules::kind::kind_of_word;
-use rim_rules::value::{array, text, truth};
 use toml::Value;
 
 /// The name in a table, or no text.

@@ -11,9 +11,9 @@ use Rattle.rim_launch.specs.declared.item.ItemKind.{ItemKind}
 use Rattle.rim_launch.specs.declared.item.ItemKind.TheVariants as kind
 use Rattle.rim_launch.specs.declared.item.Role.{Role}
 use Rattle.rim_launch.specs.declared.item.Role.TheVariants.{Kernel, Initrd, Dtb, Raw, Unknown}
-use Rattle.rim_manifest.specs.Names.{file_at, role_at}
+use Rattle.rim_rules.specs.Names.{file_at, role_at}
 use Rattle.rim_rules.specs.Values.{number_in, truth_in}
-use Rattle.rim_manifest.specs.inside.NumberRanges.{most_number, number_low}
+use Rattle.rim_rules.specs.inside.NumberRanges.{most_number, number_low}
 
 -- the command line at a key, if any
 abbrev pub bootargs_in : Option Data → Option (List ℕ)

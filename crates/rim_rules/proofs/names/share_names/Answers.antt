@@ -3,9 +3,9 @@ use Rattle.std.specs.List.{list_any}
 use Rattle.std.proofs.lemmas.List.{drop_more, length-drop, take_all}
 use Rattle.toml.specs.View.{view}
 use Rattle.toml.specs.declared.value.Value.{Value}
-use Rattle.rim_manifest.specs.Names.{is_named, name_of, share_names}
+use Rattle.rim_rules.specs.Names.{is_named, name_of, share_names}
 use Rattle.rim_rules.proofs.ListsOfValues.{list_any_map}
-use Rattle.rim_manifest.proofs.names.share_names.Goals as goal
+use Rattle.rim_rules.proofs.names.share_names.Goals as goal
 
 -- whether one of those after the place i has its name
 step : (vs rest : List Value) (i : ℕ) (v : Value) (b : Bool) (name : List ℕ) → i < length vs → v ≡ get_or vs i v → name ≡ name_of (view v)

@@ -1,7 +1,7 @@
 use Rattle.toml.specs.View.{view}
-use Rattle.rim_manifest.specs.Names.{is_named}
-use Rattle.rim_manifest.proofs.ItemsFromTables.{position-map}
-use Rattle.rim_manifest.proofs.names.file_number.Goals as goal
+use Rattle.rim_rules.specs.Names.{is_named}
+use Rattle.rim_rules.proofs.ItemsFromTables.{position-map}
+use Rattle.rim_rules.proofs.names.file_number.Goals as goal
 
 pub returns : goal.returns
 returns c =

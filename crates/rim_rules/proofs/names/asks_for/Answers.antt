@@ -5,10 +5,10 @@ use Rattle.toml.specs.Data.{get}
 use Rattle.toml.specs.View.{view}
 use Rattle.toml.specs.declared.value.Value.{Value}
 use Rattle.rim_launch.specs.declared.item.Role.TheVariants.{Dtb}
-use Rattle.rim_manifest.specs.Names.{is_at_role}
+use Rattle.rim_rules.specs.Names.{is_at_role}
 use Rattle.rim_rules.specs.Values.{truth_in}
 use Rattle.rim_rules.proofs.ListsOfValues.{list_any_map}
-use Rattle.rim_manifest.proofs.names.asks_for.Goals as goal
+use Rattle.rim_rules.proofs.names.asks_for.Goals as goal
 
 pub returns : goal.returns
 returns c =

@@ -1,0 +1,2 @@
+-- What the fields of this crate keep.
+pub mod NumberRanges
