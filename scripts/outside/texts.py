@@ -1,4 +1,4 @@
-"""How a text of somebody else's is shown: a path, a name, what a program says. It is the rule of the program's crate rim_line.
+"""How a text of somebody else's is shown: a path, a name, what a program says. It is the rule of the program's crate shown_text.
 
 A character that nobody sees, or that cannot be told from a space, is shown by its number: `\\x` and two hexadecimal digits, `\\u` and four,
 or `\\U` and eight. So no text ends a line, moves a terminal's cursor or looks like another one. A byte that is no UTF-8 is shown by its

@@ -3,7 +3,7 @@ ghost use Rattle.std.specs.Prelude.{◌≡◌, true};
 ghost use Rattle.map_text.specs.Lines.{are_lines};
 
 use refusal::NoMemory;
-use rim_line::Line;
+use shown_text::Line;
 use std::alloc::{AllocError, Global};
 use std::fmt;
 

@@ -2,8 +2,8 @@
 use crate::columns::{Lines, written};
 use refusal::NoMemory;
 use rim_accepted::AcceptedLaunch;
-use rim_line::Line;
 use rim_unusual::{SeenTrees, Unusual, find_unusual};
+use shown_text::Line;
 use std::alloc::Global;
 use std::fmt::Write;
 

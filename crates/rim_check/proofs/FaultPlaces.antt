@@ -7,8 +7,8 @@ use Rattle.rim_manifest.specs.declared.finding.Finding.{Finding}
 use Rattle.rim_check.specs.Explained.{fault_front, fault_said}
 use Rattle.rim_hints.specs.Fronts.{place_text, spot_text}
 use Rattle.rim_check.specs.inside.Listed.{located}
-use Rattle.rim_line.specs.declared.remark.Remark.{Remark}
-use Rattle.rim_line.specs.Lines.{AddsLine, IsKnown}
+use Rattle.shown_text.specs.declared.remark.Remark.{Remark}
+use Rattle.shown_text.specs.Lines.{AddsLine, IsKnown}
 use Rattle.rim_spot.specs.declared.spot.Spot.{Spot}
 
 -- what is before a fault's word is known as far as its place is

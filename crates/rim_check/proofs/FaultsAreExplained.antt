@@ -11,8 +11,8 @@ use Rattle.rim_manifest.specs.Manifest.{Answer, answer_of, document_of, manifest
 use Rattle.rim_manifest.specs.inside.Kept.{faults_in}
 use Rattle.rim_check.specs.Explained.{Explains, IsCheckOf, Located, fault_said, others_said}
 use Rattle.rim_check.specs.inside.Listed.{ShowsFindings, ShowsList, faults_at, no_document}
-use Rattle.rim_line.specs.declared.remark.Remark.{Remark}
-use Rattle.rim_line.specs.Lines.{AddsAll, Saying, SayInTurn}
+use Rattle.shown_text.specs.declared.remark.Remark.{Remark}
+use Rattle.shown_text.specs.Lines.{AddsAll, Saying, SayInTurn}
 use Rattle.rim_check.specs.declared.manifest.ManifestCheck.{ManifestCheck}
 use Rattle.rim_spot.specs.declared.spot.Spot.{Spot}
 

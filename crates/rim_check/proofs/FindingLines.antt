@@ -8,8 +8,8 @@ use Rattle.rim_manifest.specs.declared.finding.Finding.{Finding}
 use Rattle.rim_manifest.specs.inside.Kept.{faults_in}
 use Rattle.rim_check.specs.Explained.{Located, fault_said}
 use Rattle.rim_check.specs.inside.Listed.{ShowsFindings, faults_at, located}
-use Rattle.rim_line.specs.declared.remark.Remark.{Remark}
-use Rattle.rim_line.specs.Lines.{AddsLine, Saying, SayInTurn}
+use Rattle.shown_text.specs.declared.remark.Remark.{Remark}
+use Rattle.shown_text.specs.Lines.{AddsLine, Saying, SayInTurn}
 use Rattle.rim_spot.specs.declared.spot.Spot.{Spot}
 
 faults-next : (found : List Finding) (f : Finding) → faults_in (found ++ f ∷ []) ≡ faults_in found ++ f.fault ∷ []

@@ -15,8 +15,8 @@ use Rattle.rim_accepted.specs.declared.audit_fault.AuditFault.{AuditFault}
 use Rattle.rim_accepted.specs.declared.reason.LaunchReason.{LaunchReason}
 use Rattle.rim_pages.specs.Pages.{keys_at}
 use Rattle.rim_check.specs.Explained.{refusal_said}
-use Rattle.rim_line.specs.declared.remark.Remark.{Remark}
-use Rattle.rim_line.specs.Lines.{AddsLine}
+use Rattle.shown_text.specs.declared.remark.Remark.{Remark}
+use Rattle.shown_text.specs.Lines.{AddsLine}
 use Rattle.rim_check.specs.declared.found.Found.{Found}
 use Rattle.rim_check.specs.inside.Found.{AddsFound, AddsNumber, AreWarned, numbers_of}
 use Rattle.rim_check.specs.inside.Refused.{AddsSaid}

@@ -16,8 +16,8 @@ use Rattle.page_jobs.specs.Key.{rising_keys}
 use Rattle.page_jobs.specs.declared.page.PageKey.{PageKey}
 use Rattle.rim_pages.specs.Pages.{launch_keys, page_keys}
 use Rattle.rim_check.specs.Explained.{AreSaidOf, IsLaunchCheck, IsSaidOf, fault_of, pages_said}
-use Rattle.rim_line.specs.declared.remark.Remark.{Remark}
-use Rattle.rim_line.specs.Lines.{AddsAll, Saying, SayInTurn}
+use Rattle.shown_text.specs.declared.remark.Remark.{Remark}
+use Rattle.shown_text.specs.Lines.{AddsAll, Saying, SayInTurn}
 use Rattle.rim_check.specs.Warned.{ShowsWarnings}
 use Rattle.rim_check.specs.declared.found.Found.{Found}
 use Rattle.rim_check.specs.declared.found.LaunchCheck.{LaunchCheck}

@@ -3,7 +3,7 @@ use Rattle.std.proofs.Common.{◌≡◌, ℕ, false, List, [], ◌∷◌, map, r
 use Rattle.serde_json.specs.View.{items_of}
 use Rattle.serde_json.specs.Written.{has_float, items_have_float}
 use Rattle.rim_check.specs.CheckJson.{check_data, remark_json}
-use Rattle.rim_line.specs.declared.remark.Remark.{Remark}
+use Rattle.shown_text.specs.declared.remark.Remark.{Remark}
 
 remarks-float : (remarks : List Remark) → items_have_float (items_of (map remark_json remarks)) ≡ false
 remarks-float [] = refl

@@ -14,8 +14,8 @@ use Rattle.rim_accepted.specs.declared.reason.LaunchReason.{LaunchReason}
 use Rattle.rim_accepted.proofs.RefusedLaunches.{same_refusal}
 use Rattle.rim_check.specs.Details.{reason_detail}
 use Rattle.rim_check.specs.Explained.{launch_front, refusal_said}
-use Rattle.rim_line.specs.declared.remark.Remark.{Remark}
-use Rattle.rim_line.specs.Lines.{AddsLine, IsKnown, Saying, SayInTurn}
+use Rattle.shown_text.specs.declared.remark.Remark.{Remark}
+use Rattle.shown_text.specs.Lines.{AddsLine, IsKnown, Saying, SayInTurn}
 use Rattle.rim_check.specs.inside.Refused.{AddsSaid}
 
 -- a remark that is made of these parts is that of a launch's refusal

@@ -6,8 +6,8 @@ use Rattle.std.proofs.lemmas.List.{append-nil}
 use Rattle.std.proofs.lemmas.Option.{same_Some}
 use Rattle.rim_manifest.specs.Launches.{NamedData}
 use Rattle.rim_accepted.proofs.PagesOfItems.{each-append}
-use Rattle.rim_line.specs.declared.remark.Remark.{Remark}
-use Rattle.rim_line.specs.Lines.{AddsAll, AddsLine, Saying, SayInTurn}
+use Rattle.shown_text.specs.declared.remark.Remark.{Remark}
+use Rattle.shown_text.specs.Lines.{AddsAll, AddsLine, Saying, SayInTurn}
 use Rattle.rim_check.specs.Warned.{IsWarning, ShowsWarnings, more_said, warning_said}
 use Rattle.rim_check.specs.declared.warnings.Warning.{Warning}
 use Rattle.rim_check.specs.declared.warnings.Warnings.{Warnings}

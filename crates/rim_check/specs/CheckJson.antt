@@ -4,8 +4,8 @@ use Rattle.std.specs.Str.Lossy.{utf8_lossy}
 use Rattle.serde_json.specs.Data.{Data, array, member, no_members, number, object, string, unsigned}
 use Rattle.serde_json.specs.View.{items_of}
 use Rattle.serde_json.specs.Written.{compact_text}
-use Rattle.rim_line.specs.Lines.{line_of}
-use Rattle.rim_line.specs.declared.remark.Remark.{Remark}
+use Rattle.shown_text.specs.Lines.{line_of}
+use Rattle.shown_text.specs.declared.remark.Remark.{Remark}
 
 -- a remark as a text: its line, where that is UTF-8
 abbrev pub remark_json : Remark → Data

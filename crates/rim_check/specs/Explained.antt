@@ -20,8 +20,8 @@ use Rattle.rim_pages.specs.declared.fault.StartFault.TheVariants as start
 use Rattle.rim_pages.specs.declared.different.TheConstants.{DISTINCT_LIMIT}
 use Rattle.rim_check.specs.Details.{reason_detail}
 use Rattle.rim_hints.specs.Fronts.{place_text, spot_text}
-use Rattle.rim_line.specs.declared.remark.Remark.{Remark}
-use Rattle.rim_line.specs.Lines.{AddsLine, Saying, SayInTurn, lines_of}
+use Rattle.shown_text.specs.declared.remark.Remark.{Remark}
+use Rattle.shown_text.specs.Lines.{AddsLine, Saying, SayInTurn, lines_of}
 use Rattle.rim_check.specs.Warned.{ShowsWarnings}
 use Rattle.rim_check.specs.declared.found.LaunchCheck.{LaunchCheck}
 use Rattle.rim_check.specs.declared.found.ReleaseFault.{ReleaseFault}

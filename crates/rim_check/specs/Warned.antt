@@ -3,8 +3,8 @@ use Rattle.std.specs.Prelude.{◌≡◌, ℕ, List, [], ◌∷◌, ◌++◌, Som
 use Rattle.std.specs.List.{AllByRecursion, slice_get}
 use Rattle.rim_manifest.specs.Launches.{NamedData}
 use Rattle.rim_accepted.specs.Accepted.{accepted_of}
-use Rattle.rim_line.specs.declared.remark.Remark.{Remark}
-use Rattle.rim_line.specs.Lines.{Saying, SayInTurn}
+use Rattle.shown_text.specs.declared.remark.Remark.{Remark}
+use Rattle.shown_text.specs.Lines.{Saying, SayInTurn}
 
 -- a remark that is about a launch of this name
 abbrev pub warning_said : List ℕ → Saying

@@ -4,11 +4,11 @@ use rim_hints::{
     write_step, write_steps,
 };
 use rim_launch::{ITEM_LIMIT, Role};
-use rim_line::{Line, Quoted};
 use rim_manifest::{Document, Finding, ManifestFault, Subject, asks_for, entries, name, role};
 use rim_rules::form::Form;
 use rim_rules::kind::may_repeat;
 use rim_rules::value::cell;
+use shown_text::{Line, Quoted};
 use std::alloc::Global;
 use std::fmt;
 use std::fmt::Write;

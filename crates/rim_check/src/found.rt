@@ -1,14 +1,14 @@
 //! What a check of the launches of a release has found.
 ghost use Rattle.std.specs.Prelude.{◌≡◌, IfOk, OnOk, Some, codes};
 ghost use Rattle.rim_check.specs.Explained.{fault_of, pages_detail, pages_said};
-ghost use Rattle.rim_line.specs.Lines.{AddsAll, IsKnown};
+ghost use Rattle.shown_text.specs.Lines.{AddsAll, IsKnown};
 
 use crate::warnings::Warnings;
 use refusal::NoMemory;
-use rim_line::{Line, Remark, push_remark};
 use rim_manifest::NamedLaunch;
 use rim_pages::{DISTINCT_LIMIT, MeasuredPages, StartFault};
 use rim_unusual::SeenTrees;
+use shown_text::{Line, Remark, push_remark};
 use std::alloc::{AllocError, Global};
 
 /// What is at fault in a release whose manifest is not, and whose files can be read.
@@ -47,7 +47,7 @@ impl Found {
     ghost use Rattle.std.specs.Prelude.{◌≡◌, [], IfOk, List, false, length, ℕ};
     ghost use Rattle.page_jobs.specs.Key.{rising_keys};
     ghost use Rattle.rim_check.specs.Explained.{fault_of, pages_said};
-    ghost use Rattle.rim_line.specs.Lines.{AddsAll};
+    ghost use Rattle.shown_text.specs.Lines.{AddsAll};
     ghost use Rattle.rim_check.specs.Warned.{ShowsWarnings};
     ghost use Rattle.rim_check.specs.inside.Found.{AreWarned, numbers_of};
 

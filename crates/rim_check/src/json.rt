@@ -5,8 +5,8 @@ ghost use Rattle.serde_json.specs.Written.{compact_text, has_float};
 ghost use Rattle.rim_check.specs.CheckJson.{check_data, check_json_of, remark_json};
 
 use refusal::NoMemory;
-use rim_line::Remark;
 use serde_json::{Value, json};
+use shown_text::Remark;
 use std::alloc::{AllocError, Global};
 
 /// The faults and the warnings that a check finds, as one JSON object without spaces, and a line feed. Its members are `faults`

@@ -3,7 +3,7 @@ ghost use Rattle.std.specs.Prelude.{◌≡◌, [], ◌++◌, IfOk, Ok, OnOk, Som
 ghost use Rattle.ipa_layout.specs.Files.{bytes_of_files};
 ghost use Rattle.rim_check.specs.Details.{reason_detail};
 ghost use Rattle.rim_check.specs.Explained.{AddsRefusal, IsLaunchCheck, IsRefusalLine, launch_front, refusal_said};
-ghost use Rattle.rim_line.specs.Lines.{AddsLine, IsKnown};
+ghost use Rattle.shown_text.specs.Lines.{AddsLine, IsKnown};
 ghost use Rattle.rim_manifest.specs.Launches.{item_name};
 ghost use Rattle.rim_check.specs.inside.Found.{AddsFound, AddsNumber, numbers_of};
 ghost use Rattle.rim_pages.specs.Pages.{keys_at};
@@ -14,9 +14,9 @@ use crate::mending::mending_of;
 use refusal::NoMemory;
 use rim_accepted::{AcceptedLaunch, LaunchReason, LoadedLaunch, LoadedRelease, accept};
 use rim_launch::Config;
-use rim_line::{Line, Remark, lines_of, push_remark};
 use rim_manifest::NamedLaunch;
 use rim_unusual::find_unusual;
+use shown_text::{Line, Remark, lines_of, push_remark};
 use std::alloc::{AllocError, Global};
 
 /// A remark for each launch that is refused, in the manifest's order: its name, the word of its refusal as the report has

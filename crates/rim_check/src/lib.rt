@@ -22,4 +22,4 @@ pub use manifest::{ManifestCheck, check_manifest};
 pub use marking::{MarkedLine, mark_first};
 pub use rim_accepted::LaunchReason;
 pub use rim_hints::Nearest;
-pub use rim_line::{Remark, lines_of, push_file};
+pub use shown_text::{Remark, lines_of, push_file};

@@ -6,7 +6,7 @@ ghost use Rattle.rim_manifest.specs.inside.Kept.{faults_in};
 ghost use Rattle.rim_check.specs.Explained.{IsCheckOf, fault_said, others_said};
 ghost use Rattle.rim_spot.specs.declared.spot.Spot.{Spot};
 ghost use Rattle.rim_check.specs.inside.Listed.{ShowsFindings, ShowsList, located, no_document};
-ghost use Rattle.rim_line.specs.Lines.{AddsAll, AddsLine, SayInTurn};
+ghost use Rattle.shown_text.specs.Lines.{AddsAll, AddsLine, SayInTurn};
 
 use crate::excerpt::take_excerpt;
 use crate::finding_detail::write_detail;
@@ -14,9 +14,9 @@ use crate::spots::{Manifest, finding_spots};
 use itoa::Buffer;
 use refusal::NoMemory;
 use rim_hints::{error_spot, fault_front, place_text, write_message};
-use rim_line::{Line, Remark, push_remark};
 use rim_manifest::{Checked, Document, FaultList, Finding, ManifestFault, Release};
 use rim_spot::Spot;
+use shown_text::{Line, Remark, push_remark};
 use std::alloc::Global;
 use toml::de::Error;
 

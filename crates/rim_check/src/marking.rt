@@ -3,9 +3,9 @@ use crate::excerpt::take_excerpt;
 use crate::spots::{Manifest, finding_spots};
 use refusal::NoMemory;
 use rim_hints::error_spot;
-use rim_line::Line;
 use rim_manifest::{Checked, Document};
 use rim_spot::Spot;
+use shown_text::Line;
 use std::alloc::Global;
 use std::fmt::Write;
 

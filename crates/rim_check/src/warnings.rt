@@ -1,13 +1,13 @@
 //! The warnings of a release: what is rarely meant in launches that are accepted, said once for all launches that have it.
 ghost use Rattle.std.specs.Prelude.{◌<◌, OnOk};
-ghost use Rattle.rim_line.specs.Lines.{AddsAll, AddsLine};
+ghost use Rattle.shown_text.specs.Lines.{AddsAll, AddsLine};
 ghost use Rattle.rim_check.specs.Warned.{more_said, warning_said};
 
 use itoa::Buffer;
 use refusal::NoMemory;
-use rim_line::{Line, Remark, push_remark};
 use rim_manifest::NamedLaunch;
 use rim_unusual::Unusual;
+use shown_text::{Line, Remark, push_remark};
 use std::alloc::Global;
 use std::fmt::Write;
 

@@ -3,8 +3,8 @@ use Rattle.std.proofs.Common.{◌≡◌, ℕ, zero, suc, ◌+◌, ◌==◌, ◌�
 use Rattle.std.proofs.lemmas.Bool.{eqb-true}
 use Rattle.std.proofs.lemmas.List.{nil_from_length}
 use Rattle.std.proofs.lemmas.Option.{same_Some}
-use Rattle.rim_line.specs.declared.remark.Remark.{Remark}
-use Rattle.rim_line.specs.Lines.{AddsLine, Saying, SayInTurn, file_said}
+use Rattle.shown_text.specs.declared.remark.Remark.{Remark}
+use Rattle.shown_text.specs.Lines.{AddsLine, Saying, SayInTurn, file_said}
 use Rattle.rim_cli.specs.Files.{AreRead, IfFile, IsFileFault, IsRead, Known}
 use Rattle.rim_cli.specs.Status.{word_of}
 use Rattle.rim_cli.specs.Unread.{AreUnread, IsUnread}

@@ -14,8 +14,8 @@ use Rattle.rim_accepted.specs.declared.reason.LaunchReason.{LaunchReason}
 use Rattle.rim_accepted.proofs.RefusedLaunches.{same_refusal}
 use Rattle.rim_cli.specs.Mapped.{IsMapBy, IsMapOf, IsRefusedMapOf, ShowsPlaced, ShowsRefusal}
 use Rattle.rim_check.specs.Explained.{IsRefusalLine, refusal_said}
-use Rattle.rim_line.specs.Lines.{Begins, SayInTurn, line_of, lines_of}
-use Rattle.rim_line.specs.declared.remark.Remark.{Remark}
+use Rattle.shown_text.specs.Lines.{Begins, SayInTurn, line_of, lines_of}
+use Rattle.shown_text.specs.declared.remark.Remark.{Remark}
 use Rattle.rim_words.specs.declared.words.Format.{Format}
 use Rattle.rim_words.specs.declared.words.Format.TheVariants as format
 use Rattle.rim_map.specs.RefusedMap.{EndsWithLine, IsRefusedMap}

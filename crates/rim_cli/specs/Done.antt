@@ -24,8 +24,8 @@ use Rattle.rim_check.specs.Explained.{Explains, ShowsFaults, fault_in}
 use Rattle.rim_check.specs.Warned.{ShowsWarnings}
 use Rattle.rim_check.specs.declared.found.ReleaseFault.{ReleaseFault}
 use Rattle.rim_check.specs.declared.found.ReleaseFault.TheVariants as release
-use Rattle.rim_line.specs.Lines.{Saying, SayInTurn, lines_of}
-use Rattle.rim_line.specs.declared.remark.Remark.{Remark}
+use Rattle.shown_text.specs.Lines.{Saying, SayInTurn, lines_of}
+use Rattle.shown_text.specs.declared.remark.Remark.{Remark}
 use Rattle.rim_words.specs.declared.definition.TheConstants.{VERSION}
 use Rattle.rim_words.specs.declared.words.Format.{Format}
 use Rattle.rim_words.specs.declared.words.Format.TheVariants as format

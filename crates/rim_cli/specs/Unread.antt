@@ -1,6 +1,6 @@
 -- Files that cannot be read, and what is said of each. This project's choice.
 use Rattle.std.specs.Prelude.{◌≡◌, ◌⊎◌, ◌≤◌, ℕ, List, [], ◌∷◌, length}
-use Rattle.rim_line.specs.Lines.{Saying, file_said}
+use Rattle.shown_text.specs.Lines.{Saying, file_said}
 use Rattle.rim_cli.specs.declared.fault.Fault.TheVariants.{FileUnreadable, FileTooLarge}
 use Rattle.rim_cli.specs.Files.{IfFile, IsFileFault, Known}
 use Rattle.rim_cli.specs.Status.{word_of}

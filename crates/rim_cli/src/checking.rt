@@ -2,7 +2,7 @@
 ghost use Rattle.std.specs.Prelude.{◌≡◌, ◌≢◌, ◌⊎◌, ◌≤◌, [], ◌++◌, IfErr, IfOk, OnOk, if◌then◌else◌, map};
 ghost use Rattle.rim_cli.specs.Done.{Finds, IsCheckIn, IsReleaseCheck, check_status, shown_in};
 ghost use Rattle.rim_cli.specs.Files.{IfFile, IsFileFault};
-ghost use Rattle.rim_line.specs.Lines.{lines_of};
+ghost use Rattle.shown_text.specs.Lines.{lines_of};
 ghost use Rattle.rim_cli.specs.inside.Found.{AreFound, HasRemark, findings_of};
 
 use crate::answer::Answer;

@@ -19,8 +19,8 @@ pub use file::Opener;
 pub use in_memory::measure_in_memory;
 pub use laws::{answers_are_printed, the_smallest_manifest_is_read};
 pub use program::{Terminals, report_unreadable, run};
-pub use rim_line::TerminalWriter;
 pub use rim_release::{FreeGate, Gate, JobId, Lanes};
 pub use rim_words::{
     Ask, CommandFault, FileAsk, Format, LaunchAsk, ManifestAsk, Request, command, examples_are_read,
 };
+pub use shown_text::TerminalWriter;

@@ -1,9 +1,9 @@
 //! The tables of a manifest that a key belongs to.
 use crate::hint::Header;
-use rim_line::Line;
 use rim_manifest::{Document, Place};
 use rim_rules::form::{Form, Rule};
 use rim_rules::rules::{DTB_RULES, FILE_RULES, ITEM_RULES, REC_RULES, TOP_RULES};
+use shown_text::Line;
 use std::fmt;
 use std::fmt::Write;
 

@@ -3,13 +3,13 @@ ghost use Rattle.std.specs.Prelude.{◌≡◌, ◌++◌, IfOk, IfSome, Some, cod
 ghost use Rattle.std.specs.List.{list_all};
 ghost use Rattle.toml.specs.Data.{get_member};
 ghost use Rattle.toml.specs.View.{table_view};
-ghost use Rattle.rim_line.specs.Lines.{IsKnown};
+ghost use Rattle.shown_text.specs.Lines.{IsKnown};
 ghost use Rattle.rim_hints.specs.Fronts.{is_bare, is_bare_name, name_at, named_text, place_text, spot_text, table_text, text_of};
 
-use rim_line::{Line, Quoted};
 use rim_manifest::{Document, Finding, Place, Subject};
 use rim_rules::value::cell;
 use rim_spot::Spot;
+use shown_text::{Line, Quoted};
 use std::alloc::{AllocError, Global};
 use toml::{Table, Value};
 

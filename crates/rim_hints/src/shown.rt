@@ -1,9 +1,9 @@
 //! A value of a manifest, as a fault shows it.
 use crate::number::{Number, NumberPair};
-use rim_line::Quoted;
 use rim_manifest::ManifestFault;
 use rim_rules::form::Form;
 use rim_rules::word::is_word;
+use shown_text::Quoted;
 use std::fmt;
 use toml::Value;
 

@@ -2,9 +2,9 @@
 use crate::alike::is_alike;
 use crate::nearest::Nearest;
 use crate::part::{Part, Parts};
-use rim_line::{Line, Quoted};
 use rim_manifest::{entries, name};
 use rim_rules::kind::StepKind;
+use shown_text::{Line, Quoted};
 use std::alloc::{AllocError, Global};
 use std::fmt;
 use std::fmt::Write;

@@ -1,8 +1,8 @@
 //! Where a text is no TOML document, and why.
 use crate::hint::Header;
 use crate::number::is_too_large;
-use rim_line::{Line, Quoted};
 use rim_spot::{Spot, spot_at};
+use shown_text::{Line, Quoted};
 use std::fmt;
 use std::fmt::Write;
 use toml::de::Error;

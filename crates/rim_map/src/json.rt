@@ -20,9 +20,9 @@ use map_text::warning_lines;
 use refusal::NoMemory;
 use rim_accepted::{AcceptedLaunch, ListedLaunch};
 use rim_launch::Config;
-use rim_line::Line;
 use rim_manifest::{NamedLaunch, Release};
 use serde_json::{Map, Value, json, put};
+use shown_text::Line;
 use std::alloc::{AllocError, Global};
 
 /// The map of a launch that is accepted: one JSON object without spaces, and a line feed. Its members are `extensions`,

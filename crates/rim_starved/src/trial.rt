@@ -1,7 +1,7 @@
 //! A call, made with ample memory, made where memory may be refused, and made again with ample memory.
 
 use refusal::NoMemory;
-use rim_line::Remark;
+use shown_text::Remark;
 use std::alloc::{AllocError, AllocFailed, Global};
 use std::io;
 

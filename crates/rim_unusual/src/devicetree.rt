@@ -11,8 +11,8 @@ use refusal::NoMemory;
 use rim_accepted::AcceptedLaunch;
 use rim_desc::Source;
 use rim_launch::{Launch, Role};
-use rim_line::Quoted;
 use rim_show::devicetree_kind;
+use shown_text::Quoted;
 use std::alloc::Global;
 use std::fmt;
 

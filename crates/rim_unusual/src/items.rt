@@ -5,8 +5,8 @@ use crate::unusual::Unusual;
 use refusal::NoMemory;
 use rim_accepted::AcceptedLaunch;
 use rim_launch::{Item, Role};
-use rim_line::Quoted;
 use rim_manifest::NamedLaunch;
+use shown_text::Quoted;
 use std::fmt;
 
 /// How a flattened devicetree begins.

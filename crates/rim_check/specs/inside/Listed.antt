@@ -9,8 +9,8 @@ use Rattle.rim_manifest.specs.declared.finding.Subject.TheVariants as subject
 use Rattle.rim_manifest.specs.declared.finding.Finding.{Finding}
 use Rattle.rim_manifest.specs.inside.Kept.{faults_in}
 use Rattle.rim_check.specs.Explained.{Located, fault_said, others_said}
-use Rattle.rim_line.specs.declared.remark.Remark.{Remark}
-use Rattle.rim_line.specs.Lines.{SayInTurn}
+use Rattle.shown_text.specs.declared.remark.Remark.{Remark}
+use Rattle.shown_text.specs.Lines.{SayInTurn}
 use Rattle.rim_spot.specs.declared.spot.Spot.{Spot}
 
 -- a fault that was found, with its place in the text

@@ -1,7 +1,7 @@
 -- What a check has found. This project's choice.
 use Rattle.std.specs.Prelude.{◌≡◌, ℕ, List, []}
-use Rattle.rim_line.specs.Lines.{AddsLine, Saying, SayInTurn, file_said}
-use Rattle.rim_line.specs.declared.remark.Remark.{Remark}
+use Rattle.shown_text.specs.Lines.{AddsLine, Saying, SayInTurn, file_said}
+use Rattle.shown_text.specs.declared.remark.Remark.{Remark}
 use Rattle.rim_cli.specs.Done.{Findings}
 use Rattle.rim_cli.specs.Files.{AreRead, Known}
 use Rattle.rim_cli.specs.Status.{word_of}

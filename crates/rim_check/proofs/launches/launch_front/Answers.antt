@@ -1,8 +1,8 @@
 use Rattle.std.proofs.Common.{◌≡◌, ◌∙◌, ◌++◌, ℕ, List, ap, codes, true}
 use Rattle.std.specs.List.{list_all}
 use Rattle.rim_check.specs.Explained.{launch_front}
-use Rattle.rim_line.specs.Shown.{is_plain}
-use Rattle.rim_line.proofs.PlainBytes.{adds-both}
+use Rattle.shown_text.specs.Shown.{is_plain}
+use Rattle.shown_text.proofs.PlainBytes.{adds-both}
 use Rattle.rim_check.proofs.launches.launch_front.Goals as goal
 
 pub returns : goal.returns

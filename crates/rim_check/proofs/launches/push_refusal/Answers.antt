@@ -1,6 +1,6 @@
 use Rattle.std.proofs.lemmas.Result.{on_ok_weaker}
 use Rattle.rim_check.specs.Explained.{refusal_said}
-use Rattle.rim_line.specs.Lines.{AddsLine}
+use Rattle.shown_text.specs.Lines.{AddsLine}
 use Rattle.rim_check.proofs.launches.push_refusal.Goals as goal
 
 pub returns : goal.returns

@@ -1,7 +1,7 @@
 use Rattle.std.proofs.Common.{◌∙◌, List, ℕ, Option, ap}
 use Rattle.std.proofs.lemmas.Result.{on_ok_weaker}
 use Rattle.rim_launch.specs.LaunchData.{LaunchData}
-use Rattle.rim_line.specs.Lines.{AddsLine, IsKnown}
+use Rattle.shown_text.specs.Lines.{AddsLine, IsKnown}
 use Rattle.rim_check.proofs.SaidOfLaunches.{says-refusal}
 use Rattle.rim_check.proofs.launches.push_refused.Goals as goal
 

@@ -1,7 +1,7 @@
 use Rattle.std.proofs.Common.{List, ℕ, Option}
 use Rattle.std.proofs.lemmas.Result.{on_ok_weaker}
 use Rattle.toml.specs.View.{table_view}
-use Rattle.rim_line.specs.Lines.{AddsLine, IsKnown}
+use Rattle.shown_text.specs.Lines.{AddsLine, IsKnown}
 use Rattle.rim_check.proofs.FaultPlaces.{says-fault}
 use Rattle.rim_check.proofs.manifest.add_remark.Goals as goal
 

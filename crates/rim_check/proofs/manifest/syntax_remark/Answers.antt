@@ -1,7 +1,7 @@
 use Rattle.std.proofs.Common.{ℕ, List, [], ◌∷◌, None, subst}
 use Rattle.rim_check.specs.Explained.{fault_front}
 use Rattle.rim_check.specs.inside.Listed.{no_document}
-use Rattle.rim_line.specs.Lines.{SayInTurn}
+use Rattle.shown_text.specs.Lines.{SayInTurn}
 use Rattle.rim_check.proofs.manifest.syntax_remark.Goals as goal
 
 pub returns : goal.returns

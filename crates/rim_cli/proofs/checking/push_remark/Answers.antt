@@ -1,6 +1,6 @@
 use Rattle.std.proofs.Common.{List, ℕ, subst}
 use Rattle.std.proofs.lemmas.Result.{on_ok_weaker}
-use Rattle.rim_line.specs.Lines.{AddsLine, file_said}
+use Rattle.shown_text.specs.Lines.{AddsLine, file_said}
 use Rattle.rim_cli.proofs.checking.push_remark.Goals as goal
 
 pub returns : goal.returns

@@ -1,7 +1,7 @@
 use Rattle.std.proofs.Common.{[], ◌∙◌, ◌<◌, List, ℕ, ap, get_or, is_some, length, ltb-true, refl, subst, sym}
 use Rattle.std.proofs.lemmas.Option.{slice_get_read}
 use Rattle.rim_manifest.specs.Launches.{NamedData}
-use Rattle.rim_line.specs.Lines.{AddsLine}
+use Rattle.shown_text.specs.Lines.{AddsLine}
 use Rattle.rim_check.specs.Warned.{warning_said}
 use Rattle.rim_check.specs.declared.warnings.Warning.{Warning}
 use Rattle.rim_check.proofs.WarningLines.{no-more, warned-more, warned-next}

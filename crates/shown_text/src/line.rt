@@ -1,7 +1,7 @@
 //! Lines of text.
 ghost use Rattle.std.specs.Prelude.{◌≡◌, ◌<◌, true};
 ghost use Rattle.std.specs.List.{list_all};
-ghost use Rattle.rim_line.specs.Shown.{is_inside, is_plain};
+ghost use Rattle.shown_text.specs.Shown.{is_inside, is_plain};
 
 use std::alloc::{AllocError, Global};
 use std::fmt;
@@ -24,7 +24,7 @@ pub struct Line {
 impl Line {
     ghost use Rattle.std.specs.Prelude.{◌≡◌, ◌++◌, [], OnOk, true};
     ghost use Rattle.std.specs.List.{list_all};
-    ghost use Rattle.rim_line.specs.Shown.{is_inside, is_plain};
+    ghost use Rattle.shown_text.specs.Shown.{is_inside, is_plain};
 
     /// A line with no bytes. It takes no memory.
     pub fn new(alloc: Global) -> Line

@@ -1,7 +1,7 @@
 -- A remark that is added to others.
 use Rattle.std.proofs.Common.{◌≡◌, ◌∙◌, ℕ, List, [], ◌∷◌, ◌++◌, ap, refl, sym, subst}
-use Rattle.rim_line.specs.Lines.{Saying, Says, SayInTurn}
-use Rattle.rim_line.specs.declared.remark.Remark.{Remark}
+use Rattle.shown_text.specs.Lines.{Saying, Says, SayInTurn}
+use Rattle.shown_text.specs.declared.remark.Remark.{Remark}
 
 -- remarks, and one at their end
 pub remarks-append : (said : List Saying) (s : Saying) (remarks : List Remark) (r : Remark) → Says s r → SayInTurn said remarks

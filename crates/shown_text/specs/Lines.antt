@@ -1,8 +1,8 @@
 -- Remarks, each of which is a line that says a word. This project's choice.
 use Rattle.std.specs.Prelude.{◌≡◌, ℕ, true, List, [], ◌∷◌, ◌++◌, Option, Some, IfSome, codes, string_bytes}
 use Rattle.std.specs.List.{flat_map, list_all}
-use Rattle.rim_line.specs.Shown.{is_plain}
-use Rattle.rim_line.specs.declared.remark.Remark.{Remark}
+use Rattle.shown_text.specs.Shown.{is_plain}
+use Rattle.shown_text.specs.declared.remark.Remark.{Remark}
 
 -- what a remark says: a word; and what is before it and after it, where that is known
 pub record Saying : Type 0 where

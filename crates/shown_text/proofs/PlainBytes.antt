@@ -3,7 +3,7 @@ use Rattle.std.proofs.Common.{◌≡◌, ◌∙◌, ◌==◌, ◌++◌, ℕ, tru
 use Rattle.std.specs.List.{list_all}
 use Rattle.std.proofs.lemmas.Bool.{and_from, and_parts, cases_Bool, eqb-true, not_from_false, true≢false}
 use Rattle.std.proofs.lemmas.List.Folds.{list_all-append}
-use Rattle.rim_line.specs.Shown.{is_inside, is_plain}
+use Rattle.shown_text.specs.Shown.{is_inside, is_plain}
 
 -- such a byte ends no line
 one-inside : (b : ℕ) → is_plain b ≡ true → is_inside b ≡ true

@@ -1,7 +1,7 @@
 use Rattle.std.proofs.Common.{◌++◌, ◌∷◌, [], subst, sym}
-use Rattle.rim_line.specs.Lines.{SayInTurn}
-use Rattle.rim_line.proofs.AddedRemarks.{remarks-append}
-use Rattle.rim_line.proofs.remark.push_remark.Goals as goal
+use Rattle.shown_text.specs.Lines.{SayInTurn}
+use Rattle.shown_text.proofs.AddedRemarks.{remarks-append}
+use Rattle.shown_text.proofs.remark.push_remark.Goals as goal
 
 pub returns : goal.returns
 returns c front known begins ends said says =

@@ -1,8 +1,8 @@
 use Rattle.std.proofs.Common.{◌∙◌, ◌++◌, ℕ, List, Option, Some, [], ap, codes}
 use Rattle.std.proofs.lemmas.Result.{on_ok_weaker}
-use Rattle.rim_line.specs.Lines.{AddsLine, IsKnown}
-use Rattle.rim_line.proofs.PlainBytes.{adds-both}
-use Rattle.rim_line.proofs.remark.push_file.Goals as goal
+use Rattle.shown_text.specs.Lines.{AddsLine, IsKnown}
+use Rattle.shown_text.proofs.PlainBytes.{adds-both}
+use Rattle.shown_text.proofs.remark.push_file.Goals as goal
 
 pub returns : goal.returns
 returns c =

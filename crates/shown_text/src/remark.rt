@@ -1,6 +1,6 @@
 //! What a check says: remarks, each of which is a line.
 ghost use Rattle.std.specs.Prelude.{◌≡◌, IfOk, List, ℕ, OnOk, Option};
-ghost use Rattle.rim_line.specs.Lines.{AddsLine, IsKnown, file_said, lines_of};
+ghost use Rattle.shown_text.specs.Lines.{AddsLine, IsKnown, file_said, lines_of};
 
 use crate::line::Line;
 use refusal::NoMemory;
@@ -19,7 +19,7 @@ pub struct Remark {
 
 impl Remark {
     ghost use Rattle.std.specs.Prelude.{◌≡◌, ◌++◌, OnOk};
-    ghost use Rattle.rim_line.specs.Lines.{line_of};
+    ghost use Rattle.shown_text.specs.Lines.{line_of};
 
     /// Adds its line to a text, without a line feed.
     pub fn push_to(&self, text: &mut Vec<u8>) -> Result<(), AllocError>
