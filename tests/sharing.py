@@ -261,7 +261,7 @@ def ends() -> list[str]:
 
 # ---- older versions of Python
 
-STARTS = ("rim-manifest", "rim-match", "rim-compare", "rim-verify", "scripts/vmm/measure.py")
+STARTS = ("rim-manifest", "rim-match", "rim-compare", "rim-verify", "rim-endorse", "scripts/vmm/measure.py")
 OLD = "import runpy, sys; sys.version_info = (3, 9, 2, 'final', 0); sys.argv = sys.argv[1:]; runpy.run_path(sys.argv[0], run_name='__main__')"
 
 

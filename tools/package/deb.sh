@@ -46,7 +46,7 @@ put_programs() {
     put 755 tools/package/rim bin/rim
     put 755 dist/rim-x86_64-v2 libexec/rim/x86-64-v2/rim
     put 755 dist/rim-x86_64-v3 libexec/rim/x86-64-v3/rim
-    for script in rim-manifest rim-match rim-compare rim-verify; do
+    for script in rim-manifest rim-match rim-compare rim-verify rim-endorse; do
         [ ! -f "$script" ] || put 755 "$script" "bin/$script"
     done
     if [ -f rim-manifest ]; then

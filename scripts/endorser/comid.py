@@ -1,0 +1,87 @@
+"""Reference values as a CoMID (draft-ietf-rats-corim), in the JSON that `cocli comid create` takes and in CBOR, and an unsigned CoRIM around it.
+
+The labels, the tags, the profile and the members of the JSON are from memory of the draft, of the profile for CCA realms and of cocli: nothing
+that can be installed here has them. docs/VERIFIER.md says so of each.
+"""
+import base64
+import json
+import uuid
+from collections.abc import Sequence
+from dataclasses import dataclass
+
+from comparer.report import Value
+from outside.cbor import Tag, encoded
+
+# What identifiers are made in: the same contents have the same ones.
+NAMESPACE = uuid.uuid5(uuid.NAMESPACE_URL, "urn:rim:endorsement:1")
+PROFILE = "http://arm.com/cca/realm/1"
+# The hash algorithms in texts, and their numbers of the registry of named information.
+HASHES = {"sha256": ("sha-256", 1), "sha512": ("sha-512", 8)}
+# Tags: an unsigned CoRIM, a CoMID in it, a URI, a UUID, bytes.
+CORIM, COMID, URI, UUID, BYTES = 501, 506, 32, 37, 560
+# Labels: of a CoRIM; of a CoMID; of its identity; of a class; of an environment, a measurement and its values.
+CORIM_ID, CORIM_TAGS, CORIM_PROFILE = 0, 1, 3
+LANGUAGE, IDENTITY, TRIPLES, REFERENCE_VALUES = 0, 1, 4, 0
+TAG_ID, TAG_VERSION = 0, 1
+CLASS_ID, VENDOR = 0, 1
+CLASS, INSTANCE = 0, 1
+VALUES, REGISTERS = 1, 14
+RIM, ENGLISH = "rim", "en-GB"
+
+
+@dataclass(frozen=True)
+class About:
+    """What all launches share: the vendor and the class of the workload, of which there is one at least."""
+
+    vendor: str | None
+    class_id: uuid.UUID | None
+
+
+def in_base64(data: bytes) -> str:
+    return base64.b64encode(data).decode()
+
+
+def class_json(about: About) -> dict:
+    found = {"id": {"type": "uuid", "value": str(about.class_id)}} if about.class_id else {}
+    return found | ({"vendor": about.vendor} if about.vendor is not None else {})
+
+
+def launch_json(about: About, value: Value) -> dict:
+    """The reference value of a launch. Its RIM tells the environment apart from others, as its instance."""
+    rim = in_base64(bytes.fromhex(value.digits))
+    registers = {RIM: {"key-type": "text", "value": [f"{HASHES[value.algorithm][0]};{rim}"]}}
+    return {"environment": {"class": class_json(about), "instance": {"type": "bytes", "value": rim}},
+            "measurements": [{"value": {"integrity-registers": registers}}]}
+
+
+def identifier(about: About, values: Sequence[Value]) -> uuid.UUID:
+    """The identifier of a CoMID, which is made of what it says."""
+    return uuid.uuid5(NAMESPACE, json.dumps([launch_json(about, value) for value in values]))
+
+
+def as_json(about: About, values: Sequence[Value]) -> str:
+    """The CoMID as cocli takes it."""
+    table = {"lang": ENGLISH, "tag-identity": {"id": str(identifier(about, values)), "version": 0},
+             "triples": {"reference-values": [launch_json(about, value) for value in values]}}
+    return json.dumps(table, indent=2) + "\n"
+
+
+def launch_cbor(about: About, value: Value) -> list:
+    rim = bytes.fromhex(value.digits)
+    of_class = {CLASS_ID: Tag(UUID, about.class_id.bytes)} if about.class_id else {}
+    of_class |= {VENDOR: about.vendor} if about.vendor is not None else {}
+    registers = {RIM: [[HASHES[value.algorithm][1], rim]]}
+    return [{CLASS: of_class, INSTANCE: Tag(BYTES, rim)}, [{VALUES: {REGISTERS: registers}}]]
+
+
+def as_cbor(about: About, values: Sequence[Value]) -> bytes:
+    """The CoMID in CBOR."""
+    return encoded({LANGUAGE: ENGLISH, IDENTITY: {TAG_ID: identifier(about, values).bytes, TAG_VERSION: 0},
+                    TRIPLES: {REFERENCE_VALUES: [launch_cbor(about, value) for value in values]}})
+
+
+def corim(about: About, values: Sequence[Value]) -> bytes:
+    """An unsigned CoRIM with that CoMID alone."""
+    inner = as_cbor(about, values)
+    own = uuid.uuid5(NAMESPACE, inner.hex())
+    return encoded(Tag(CORIM, {CORIM_ID: own.bytes, CORIM_TAGS: [Tag(COMID, inner)], CORIM_PROFILE: Tag(URI, PROFILE)}))

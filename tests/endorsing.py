@@ -1,0 +1,153 @@
+#!/usr/bin/env python3
+"""Gives rim-endorse reports, and looks at the reference values that it makes.
+
+    tests/endorsing.py [PROGRAM]          by default the program that `rt ci` has built
+
+- A report that is written here: its CoMID as JSON; its CoRIM byte for byte as Python's `cbor2` 5.4.6 writes it canonically (made once, with the
+  structure written by hand), and as our reader of CBOR reads it.
+- The same reports give the same bytes; launches with one value, several reports, launches that are refused, a report of PROGRAM.
+- Wrong words and faults, outputs that are full, a file that is there.
+
+The last line is 'N passed, M failed'.
+"""
+import base64
+import json
+import os
+import subprocess
+import sys
+import uuid
+
+from helpers import TOP
+from helpers.folders import Folder
+from helpers.tries import at_a_time, differs, program_of, told
+
+from outside import cbor
+from outside.cbor import Tag
+
+START = os.path.join(TOP, "rim-endorse")
+SHORT, LONG = bytes(range(32)), bytes(range(64))
+CLASS = "cd1f0e55-26f9-460d-b9d8-f7fde171787c"
+WORDS = ["--vendor", "ACME Ltd", "--class-id", CLASS]
+# What cbor2 writes of the CoRIM of that report.
+CORIM = bytes.fromhex("""
+    d901f5a30050fc096d071f19517a8880391bafdb47190181d901fa590150a30065656e2d474201a20050f2bed4230657527d87f5141c37de4262010004a1008282a2
+    00a200d82550cd1f0e5526f9460db9d8f7fde171787c016841434d45204c746401d902305820000102030405060708090a0b0c0d0e0f101112131415161718191a1b
+    1c1d1e1f81a101a10ea16372696d8182015820000102030405060708090a0b0c0d0e0f101112131415161718191a1b1c1d1e1f82a200a200d82550cd1f0e5526f946
+    0db9d8f7fde171787c016841434d45204c746401d902305840000102030405060708090a0b0c0d0e0f101112131415161718191a1b1c1d1e1f202122232425262728
+    292a2b2c2d2e2f303132333435363738393a3b3c3d3e3f81a101a10ea16372696d8182085840000102030405060708090a0b0c0d0e0f101112131415161718191a1b
+    1c1d1e1f202122232425262728292a2b2c2d2e2f303132333435363738393a3b3c3d3e3f03d820781a687474703a2f2f61726d2e636f6d2f6363612f7265616c6d2f
+    31
+""")
+
+
+def in_base64(data: bytes) -> str:
+    return base64.b64encode(data).decode()
+
+
+def launch(name: str, algorithm: str, rim: bytes) -> dict:
+    return {"algorithm": algorithm, "name": name, "rim": rim.hex(), "rim_base64": in_base64(rim)}
+
+
+LAUNCHES = [launch("a", "sha256", SHORT), launch("b", "sha512", LONG), launch("same", "sha256", SHORT)]
+REFUSED = {"algorithm": "sha256", "name": "r", "refused": "overlap"}
+
+
+def report(launches: list[dict]) -> bytes:
+    return json.dumps({"files": [], "launches": launches, "pages": 0, "program": "rim", "version": 3}).encode()
+
+
+def folder(more: dict[str, bytes] | None = None) -> Folder:
+    return Folder({"r.json": report(LAUNCHES), "refused.json": report([*LAUNCHES[:1], REFUSED]), "none.json": report([REFUSED]),
+                   "b.json": report(LAUNCHES[1:2])} | (more or {}))
+
+
+def reference_value(word: str, rim: bytes) -> dict:
+    """As cocli's templates for CCA realms have it."""
+    return {"environment": {"class": {"id": {"type": "uuid", "value": CLASS}, "vendor": "ACME Ltd"},
+                            "instance": {"type": "bytes", "value": in_base64(rim)}},
+            "measurements": [{"value": {"integrity-registers": {"rim": {"key-type": "text", "value": [f"{word};{in_base64(rim)}"]}}}}]}
+
+
+def one_report(_program: str) -> list[str]:
+    here = folder()
+    status, out, said = here.run(*WORDS, "--corim", "c.cbor", "r.json", start=START)
+    table = json.loads(out)
+    identity = table["tag-identity"]
+    wrong = differs("status, standard error", (status, said), (0, ""))
+    wrong += differs("JSON", table, {"lang": "en-GB", "tag-identity": identity, "triples": {"reference-values": [
+        reference_value("sha-256", SHORT), reference_value("sha-512", LONG)]}})
+    wrong += differs("the identity", (uuid.UUID(identity["id"]).version, identity["version"]), (5, 0))
+    written = here.read("c.cbor")
+    wrong += differs("CBOR", written.hex(), CORIM.hex())
+    outer = cbor.decoded(written)
+    inner = cbor.decoded(outer.value[1][0].value)
+    wrong += differs("what is read back", (outer.number, outer.value[1][0].number, inner[1][0], inner[4][0][0]), (
+        501, 506, uuid.UUID(identity["id"]).bytes,
+        [{0: {0: Tag(37, uuid.UUID(CLASS).bytes), 1: "ACME Ltd"}, 1: Tag(560, SHORT)}, [{1: {14: {"rim": [[1, SHORT]]}}}]]))
+    wrong += differs("again", here.run(*WORDS, "--corim", "d.cbor", "r.json", start=START), (0, out, ""))
+    wrong += differs("the same bytes", here.read("d.cbor") == written, True)
+    here.put("a.json", report(LAUNCHES[:1]))
+    wrong += differs("two reports", here.run(*WORDS, "a.json", "b.json", start=START), (0, out, ""))
+    other = json.loads(here.run(*WORDS, "b.json", start=START)[1])
+    return wrong + differs("another identity", other["tag-identity"]["id"] != identity["id"], True)
+
+
+def refusals(program: str) -> list[str]:
+    """A launch that is refused has no reference value, and that is said; and a report of a program that measures."""
+    here = folder({"m.toml": b'rim_manifest = 1\nlaunch = [{ name = "a", algo = "sha256", s2sz = 33 }]'})
+    status, out, said = here.run(*WORDS, "refused.json", start=START)
+    wrong = differs("one of two", (status, len(json.loads(out)["triples"]["reference-values"]), said), (
+        1, 1, 'rim-endorse: launch "r" of refused.json is refused (overlap) and has no reference value\n'))
+    wrong += differs("all", here.run(*WORDS, "none.json", start=START), (3, "", "rim-endorse: no launch has a RIM, expected one\n"))
+    ran = subprocess.run([program, "measure", "--json", "m.toml"], cwd=here.path, capture_output=True, check=True)
+    here.put("m.json", ran.stdout)
+    status, out, said = here.run("--vendor", "ACME", "m.json", start=START)
+    values = json.loads(out)["triples"]["reference-values"]
+    return wrong + differs("measured", (status, said, values[0]["environment"]["instance"]["value"], values[0]["environment"]["class"]), (
+        0, "", json.loads(ran.stdout)["launches"][0]["rim_base64"], {"vendor": "ACME"}))
+
+
+WRONG = [
+    ([], 2, "usage: rim-endorse"), (["r.json"], 2, "no class is given, expected --vendor or --class-id"),
+    (["--vendor", "a"], 2, "0 operands, expected REPORT"), (["--vendor", "", "r.json"], 2, '--vendor: "", expected a name'),
+    (["--vendor", "a\nb", "r.json"], 2, '--vendor: "a\\x0ab", expected a name'), (["--vendor", "a" * 201, "r.json"], 2, "expected a name of 1 to 200"),
+    (["--class-id", "cd1f", "r.json"], 2, '--class-id: "cd1f", expected a UUID'), (["--class-id", CLASS + "0", "r.json"], 2, "expected a UUID"),
+    (["--vendor", "a", "--vendor", "b", "r.json"], 2, "--vendor is given twice"), (["--all", "r.json"], 2, '"--all" is no option'),
+    ([*WORDS, "gone.json"], 3, "gone.json: No such file or directory, expected a report of rim measure --json"),
+    ([*WORDS, "/dev/zero"], 3, "/dev/zero: it is a device, expected a report"), ([*WORDS, "fifo"], 3, "fifo: it is a FIFO, expected a report"),
+    ([*WORDS, "--corim", "r.json", "b.json"], 3, "r.json: File exists, expected a file that is not there"),
+    ([*WORDS, "--corim", "none/c", "b.json"], 3, "none/c: No such file or directory, expected a file that is not there"),
+    ([*WORDS, "--corim", "", "b.json"], 3, "No such file or directory, expected a file that is not there"),
+]
+
+
+def words(_program: str) -> list[str]:
+    here, wrong = folder(), []
+    os.mkfifo(os.path.join(here.path, "fifo"))
+    for given, expected, text in WRONG:
+        status, out, said = here.run(*given, start=START)
+        if (status, out, text in said) != (expected, "", True) or (given and said.count("\n") != 1):
+            wrong.append(f"{given[:4]}: {status} {out!r} {said!r}, expected {expected} {text!r}")
+    for given, text in ((["--help"], "from memory of drafts"), (["-V"], "rim-endorse 0.")):
+        status, out, said = here.run(*given, start=START)
+        wrong += differs(given[0], (status, text in out, said), (0, True, ""))
+    with open("/dev/full", "w", encoding="utf-8") as full:
+        ran = subprocess.run([START, *WORDS, "r.json"], cwd=here.path, stdout=full, stderr=subprocess.PIPE, text=True, check=False)
+    wrong += differs("a full disk", (ran.returncode, ran.stderr), (3, "rim-endorse: output: No space left on device\n"))
+    limited = ["/bin/sh", "-c", "ulimit -f 0; trap '' XFSZ; exec \"$0\" \"$@\" >/dev/null", START, *WORDS, "--corim", "c", "r.json"]
+    ran = subprocess.run(limited, cwd=here.path, stderr=subprocess.PIPE, text=True, check=False)
+    is_line = ran.stderr.startswith("rim-endorse: c: File too large")
+    return wrong + differs("a file that is full", (ran.returncode, is_line, os.path.exists(os.path.join(here.path, "c"))), (3, True, False))
+
+
+def all_tries(program: str):
+    for look in (one_report, refusals, words):
+        yield look.__name__, lambda look=look: look(program)
+
+
+def run_all() -> int:
+    return told(at_a_time(all_tries(program_of(sys.argv[1:]))))
+
+
+if __name__ == "__main__":
+    sys.exit(run_all())
