@@ -7,6 +7,7 @@ import uuid
 from comparer import report
 from outside import ending, files
 from outside.faults import Fault, WrongWords
+from outside.stopping import held
 from outside.texts import quoted, shown, visible
 from outside.words import END, VERSION, Known, no_option, walk
 
@@ -54,15 +55,16 @@ def about_of(given: dict[str, str]) -> About:
 
 
 def write_new(path: str, data: bytes):
-    """Writes a file that is not there."""
-    with files.faults_of(path, "a file that is not there, and can be written"):
-        file = os.open(path, os.O_WRONLY | os.O_CREAT | os.O_EXCL | os.O_CLOEXEC, 0o666)
-    try:
-        with files.faults_of(path, "that it can be written"), open(file, "wb") as output:
-            output.write(data)
-    except BaseException:
-        os.unlink(path)
-        raise
+    """Writes a file that is not there, whole: a signal stops the script after it."""
+    with held():
+        with files.faults_of(path, "a file that is not there, and can be written"):
+            file = os.open(path, os.O_WRONLY | os.O_CREAT | os.O_EXCL | os.O_CLOEXEC, 0o666)
+        try:
+            with files.faults_of(path, "that it can be written"), open(file, "wb") as output:
+                output.write(data)
+        except Fault:
+            os.unlink(path)
+            raise
 
 
 def run(words: list[str]) -> int:
@@ -89,9 +91,10 @@ def run(words: list[str]) -> int:
         raise Fault("no launch has a RIM, expected one")
     for path, name, value in refused:
         print(f"rim-endorse: launch {quoted(name)} of {visible(path)} is refused ({value.refused}) and has no reference value", file=sys.stderr)
+    # the file comes last, so that none is left of a run whose output fails: the next run would find it there
+    print(comid.as_json(about, values), end="", flush=True)
     if "--corim" in given:
         write_new(given["--corim"], comid.corim(about, values))
-    print(comid.as_json(about, values), end="")
     return int(bool(refused))
 
 
