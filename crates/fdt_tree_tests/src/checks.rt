@@ -30,12 +30,8 @@ pub fn check_values(rt: &impl Abort, tree: &Tree, values: &[Value]) {
 pub fn check_root(rt: &impl Abort, tree: &Tree, properties: usize, children: usize) {
     let root = tree.root();
     check(rt, root.name.is_empty(), "the root's name");
-    check(
-        rt,
-        root.properties.len() == properties,
-        "how many properties",
-    );
-    check(rt, root.children.len() == children, "how many children");
+    let counts = (root.properties.len(), root.children.len());
+    check(rt, counts == (properties, children), "how many are in it");
 }
 
 /// The processor that boots, and the reservations.

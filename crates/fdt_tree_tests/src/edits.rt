@@ -52,11 +52,8 @@ fn a_property_that_was_there(rt: HostRuntime) {
     set(&rt, rt.alloc(), &mut tree, b"/chosen", b"bootargs", b"ro");
     set(&rt, rt.alloc(), &mut tree, b"/chosen", b"second", b"");
     check_values(&rt, &tree, &CHANGED_VALUES);
-    check(
-        &rt,
-        only_child_has(&tree, &[b"bootargs", b"second"]),
-        "names",
-    );
+    let has_both = only_child_has(&tree, &[b"bootargs", b"second"]);
+    check(&rt, has_both, "names");
 }
 
 // A root with `reg` as 1 and as 2, and the nodes `n` and `n`.

@@ -43,25 +43,12 @@ pub fn push_bytes(rt: &impl Abort, out: &mut Vec<u8>, bytes: &[u8]) {
     out.extend_from_slice(bytes).expect(rt, "memory");
 }
 
-/// The header of a file with no reservations, a structure block and strings, and the pair of zeros after it.
-fn header(block_len: u32, strings_len: u32) -> [u32; 14] {
-    let strings_at = block_len.saturating_add(56);
-    let total = strings_at.saturating_add(strings_len);
+/// The header of a file with no reservations, a structure block and strings of these sizes, and the pair of zeros after it.
+fn header(block: u32, strings: u32) -> [u32; 14] {
+    let at = block.saturating_add(56);
+    let total = at.saturating_add(strings);
     [
-        0xd00dfeed,
-        total,
-        56,
-        strings_at,
-        40,
-        17,
-        16,
-        0,
-        strings_len,
-        block_len,
-        0,
-        0,
-        0,
-        0,
+        0xd00dfeed, total, 56, at, 40, 17, 16, 0, strings, block, 0, 0, 0, 0,
     ]
 }
 

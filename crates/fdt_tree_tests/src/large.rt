@@ -69,11 +69,7 @@ fn has_last(rt: &impl Abort, tree: &Tree, strings: &[u8]) -> bool {
 
 fn check_too_large(rt: &impl Abort, alloc: Global, tree: &Tree) {
     let fault = tree.write(alloc).err();
-    check(
-        rt,
-        fault == Some(FdtFault::TooLarge),
-        "too large to be written",
-    );
+    check(rt, fault == Some(FdtFault::TooLarge), "it is too large");
 }
 
 #[test]
@@ -119,11 +115,8 @@ fn one_large_value(rt: HostRuntime) {
     let value = letters(&rt, rt.alloc(), 711_024);
     let bytes = with_data(&rt, rt.alloc(), &value);
     let tree = tree_of(&rt, rt.alloc(), &bytes);
-    check(
-        &rt,
-        tree.get(b"/", b"data") == Some(value.as_slice()),
-        "the value",
-    );
+    let found = tree.get(b"/", b"data");
+    check(&rt, found == Some(value.as_slice()), "the value");
 }
 
 #[test]
@@ -149,11 +142,8 @@ fn as_large_as_may_be(rt: HostRuntime) {
     let bytes = tree.write(rt.alloc()).expect(&rt, "a file");
     check(&rt, bytes.len() == 2_097_152, "2 MiB");
     let again = tree_of(&rt, rt.alloc(), &bytes);
-    check(
-        &rt,
-        again.get(b"/", b"abc") == tree.get(b"/", b"abc"),
-        "the value",
-    );
+    let (found, want) = (again.get(b"/", b"abc"), tree.get(b"/", b"abc"));
+    check(&rt, found == want, "the value");
 }
 
 #[test]

@@ -1,4 +1,4 @@
-//! Tests of `fdt_tree`, apart from it so that it is proved once.
+//! Tests of `fdt_tree`, apart from it so that it is proved once; and devicetrees for tests of other crates too.
 #![tactic(auto)]
 
 #[cfg(test)]
@@ -13,7 +13,6 @@ mod large;
 mod reading;
 #[cfg(test)]
 mod refused;
-#[cfg(test)]
-mod vectors;
+pub mod vectors;
 #[cfg(test)]
 mod writing;

@@ -6,6 +6,10 @@ use crate::files::{
     with_words, words,
 };
 use crate::vectors::{CHOSEN, EMPTY, LATE, SUFFIX};
+use fdt_tree::FdtFault::{
+    BadBlock, BadMagic, BadName, BadReserve, BadString, BadToken, BadVersion, LateProperty, Short,
+    TooDeep, TooLarge,
+};
 use fdt_tree::{FdtFault, Reservation, read};
 use std::alloc::Global;
 use std::process::Abort;
@@ -131,52 +135,52 @@ type Change = (&'static [(usize, u32)], Option<FdtFault>);
 
 const CHANGES_OF_EMPTY: [Change; 39] = [
     // the first check that fails decides
-    (&[(0, 0xd00dfeec)], Some(FdtFault::BadMagic)),
-    (&[(0, 0xedfe0dd0)], Some(FdtFault::BadMagic)),
-    (&[(20, 16)], Some(FdtFault::BadVersion)),
-    (&[(20, 18)], Some(FdtFault::BadVersion)),
-    (&[(24, 18)], Some(FdtFault::BadVersion)),
+    (&[(0, 0xd00dfeec)], Some(BadMagic)),
+    (&[(0, 0xedfe0dd0)], Some(BadMagic)),
+    (&[(20, 16)], Some(BadVersion)),
+    (&[(20, 18)], Some(BadVersion)),
+    (&[(24, 18)], Some(BadVersion)),
     (&[(24, 17)], None),
     (&[(24, 0)], None),
     // totalsize, between the header's and the file's length, with the blocks inside it
-    (&[(4, 39)], Some(FdtFault::BadBlock)),
-    (&[(4, 71)], Some(FdtFault::BadBlock)),
-    (&[(4, 73)], Some(FdtFault::BadBlock)),
-    (&[(4, 0xffffffff)], Some(FdtFault::BadBlock)),
+    (&[(4, 39)], Some(BadBlock)),
+    (&[(4, 71)], Some(BadBlock)),
+    (&[(4, 73)], Some(BadBlock)),
+    (&[(4, 0xffffffff)], Some(BadBlock)),
     // the structure block's place and size
-    (&[(8, 54)], Some(FdtFault::BadBlock)),
-    (&[(8, 60)], Some(FdtFault::BadBlock)),
-    (&[(8, 0xfffffffc)], Some(FdtFault::BadBlock)),
-    (&[(36, 17)], Some(FdtFault::BadBlock)),
-    (&[(36, 0xfffffff0)], Some(FdtFault::BadBlock)),
-    (&[(36, 15)], Some(FdtFault::BadToken)),
-    (&[(36, 0)], Some(FdtFault::BadToken)),
+    (&[(8, 54)], Some(BadBlock)),
+    (&[(8, 60)], Some(BadBlock)),
+    (&[(8, 0xfffffffc)], Some(BadBlock)),
+    (&[(36, 17)], Some(BadBlock)),
+    (&[(36, 0xfffffff0)], Some(BadBlock)),
+    (&[(36, 15)], Some(BadToken)),
+    (&[(36, 0)], Some(BadToken)),
     // the strings block's
-    (&[(12, 73)], Some(FdtFault::BadBlock)),
+    (&[(12, 73)], Some(BadBlock)),
     (&[(12, 1)], None),
-    (&[(32, 1)], Some(FdtFault::BadBlock)),
-    (&[(12, 0xffffffff)], Some(FdtFault::BadBlock)),
+    (&[(32, 1)], Some(BadBlock)),
+    (&[(12, 0xffffffff)], Some(BadBlock)),
     // the reservations'
-    (&[(16, 44)], Some(FdtFault::BadBlock)),
-    (&[(16, 80)], Some(FdtFault::BadBlock)),
-    (&[(16, 72)], Some(FdtFault::BadReserve)),
-    (&[(16, 0x40)], Some(FdtFault::BadReserve)),
+    (&[(16, 44)], Some(BadBlock)),
+    (&[(16, 80)], Some(BadBlock)),
+    (&[(16, 72)], Some(BadReserve)),
+    (&[(16, 0x40)], Some(BadReserve)),
     // the processor that boots is any
     (&[(28, 0xffffffff)], None),
     // tokens
-    (&[(68, 0)], Some(FdtFault::BadToken)),
-    (&[(68, BEGIN_NODE)], Some(FdtFault::BadToken)),
-    (&[(68, END_NODE)], Some(FdtFault::BadToken)),
-    (&[(68, PROP)], Some(FdtFault::BadToken)),
-    (&[(68, NOP)], Some(FdtFault::BadToken)),
-    (&[(64, END)], Some(FdtFault::BadToken)),
-    (&[(56, END)], Some(FdtFault::BadToken)),
-    (&[(56, 0x01000000)], Some(FdtFault::BadToken)),
+    (&[(68, 0)], Some(BadToken)),
+    (&[(68, BEGIN_NODE)], Some(BadToken)),
+    (&[(68, END_NODE)], Some(BadToken)),
+    (&[(68, PROP)], Some(BadToken)),
+    (&[(68, NOP)], Some(BadToken)),
+    (&[(64, END)], Some(BadToken)),
+    (&[(56, END)], Some(BadToken)),
+    (&[(56, 0x01000000)], Some(BadToken)),
     // a root with a name, by its first byte; the last of its padding is not looked at
-    (&[(60, 0x61000000)], Some(FdtFault::BadName)),
+    (&[(60, 0x61000000)], Some(BadName)),
     (&[(60, 0x00616161)], None),
     // no reservations, and no token
-    (&[(16, 72), (36, 0)], Some(FdtFault::BadReserve)),
+    (&[(16, 72), (36, 0)], Some(BadReserve)),
     // the strings are the whole file
     (&[(12, 0), (32, 72)], None),
 ];
@@ -185,24 +189,24 @@ const CHANGES_OF_SUFFIX: [Change; 14] = [
     // the offset of the property's name
     (&[(72, 0)], None),
     (&[(72, 3)], None),
-    (&[(72, 4)], Some(FdtFault::BadName)),
-    (&[(72, 5)], Some(FdtFault::BadString)),
-    (&[(72, 0xffffffff)], Some(FdtFault::BadString)),
+    (&[(72, 4)], Some(BadName)),
+    (&[(72, 5)], Some(BadString)),
+    (&[(72, 0xffffffff)], Some(BadString)),
     // the strings block ends before the zero byte
-    (&[(32, 4)], Some(FdtFault::BadString)),
-    (&[(32, 0)], Some(FdtFault::BadString)),
+    (&[(32, 4)], Some(BadString)),
+    (&[(32, 0)], Some(BadString)),
     // the structure block ends after the token's number, its length and its offset
-    (&[(36, 12)], Some(FdtFault::BadToken)),
-    (&[(36, 16)], Some(FdtFault::BadToken)),
-    (&[(36, 20)], Some(FdtFault::BadToken)),
+    (&[(36, 12)], Some(BadToken)),
+    (&[(36, 16)], Some(BadToken)),
+    (&[(36, 20)], Some(BadToken)),
     // the value's length: 8 bytes are left, the tokens END_NODE and END
-    (&[(68, 8)], Some(FdtFault::BadToken)),
-    (&[(68, 9)], Some(FdtFault::BadToken)),
-    (&[(68, 0xffffffff)], Some(FdtFault::BadToken)),
-    (&[(68, 4)], Some(FdtFault::BadToken)),
+    (&[(68, 8)], Some(BadToken)),
+    (&[(68, 9)], Some(BadToken)),
+    (&[(68, 0xffffffff)], Some(BadToken)),
+    (&[(68, 4)], Some(BadToken)),
 ];
 
-const LATE_AS_IT_IS: [Change; 1] = [(&[], Some(FdtFault::LateProperty))];
+const LATE_AS_IT_IS: [Change; 1] = [(&[], Some(LateProperty))];
 
 fn check_change(rt: &impl Abort, alloc: Global, bytes: &[u8], change: &Change) {
     let (changes, want) = change;
@@ -238,11 +242,7 @@ fn check_cut(rt: &impl Abort, alloc: Global, bytes: &[u8], len: usize, want: Fdt
 #[test]
 fn a_file_that_is_cut(rt: HostRuntime) {
     for len in 0..117 {
-        let want = if len < 40 {
-            FdtFault::Short
-        } else {
-            FdtFault::BadBlock
-        };
+        let want = if len < 40 { Short } else { BadBlock };
         check_cut(&rt, rt.alloc(), &CHOSEN, len, want);
     }
 }
@@ -254,8 +254,8 @@ const WRONG: [u32; 10] = [0, 39, 1, 0xffffffff, 1, 16, 18, 0, 1, 1];
 #[test]
 fn the_first_check_of_a_header_decides(rt: HostRuntime) {
     let short = words(&rt, rt.alloc(), &WRONG);
-    check_cut(&rt, rt.alloc(), &short, 39, FdtFault::Short);
-    check_cut(&rt, rt.alloc(), &short, 40, FdtFault::BadMagic);
+    check_cut(&rt, rt.alloc(), &short, 39, Short);
+    check_cut(&rt, rt.alloc(), &short, 40, BadMagic);
 }
 
 // Such a header with the number at its begin, and 2,097,153 bytes in all.
@@ -267,12 +267,12 @@ fn large(rt: &impl Abort, alloc: Global) -> Vec<u8> {
 }
 
 const CHANGES_OF_LARGE: [Change; 2] = [
-    (&[], Some(FdtFault::BadVersion)),
-    (&[(20, 17), (24, 17)], Some(FdtFault::TooLarge)),
+    (&[], Some(BadVersion)),
+    (&[(20, 17), (24, 17)], Some(TooLarge)),
 ];
 
 // One byte fewer, which are not too many.
-const CHANGES_WITHIN: [Change; 1] = [(&[(20, 17), (24, 17)], Some(FdtFault::BadBlock))];
+const CHANGES_WITHIN: [Change; 1] = [(&[(20, 17), (24, 17)], Some(BadBlock))];
 
 #[test]
 fn the_first_check_of_a_large_file_decides(rt: HostRuntime) {
@@ -353,8 +353,8 @@ const ZEROS_AFTER: [u32; 18] = [
 // The pair of zeros ends where totalsize does; then a byte before that.
 const CHANGES_OF_ZEROS: [Change; 3] = [
     (&[], None),
-    (&[(4, 71)], Some(FdtFault::BadBlock)),
-    (&[(4, 71), (12, 0)], Some(FdtFault::BadReserve)),
+    (&[(4, 71)], Some(BadBlock)),
+    (&[(4, 71), (12, 0)], Some(BadReserve)),
 ];
 
 #[test]
@@ -363,120 +363,56 @@ fn reservations_at_the_end(rt: HostRuntime) {
     check_changes(&rt, rt.alloc(), &bytes, &CHANGES_OF_ZEROS);
 }
 
-// Structure blocks, and their faults.
-const TOKENS: [([u32; 10], FdtFault); 25] = [
+// Structure blocks whose tokens are at fault.
+const BAD_TOKENS: [[u32; 10]; 12] = [
     // END before the root and inside a node, a second root, tokens outside the root
-    ([END, 0, 0, 0, 0, 0, 0, 0, 0, 0], FdtFault::BadToken),
-    (
-        [BEGIN_NODE, 0, END, 0, 0, 0, 0, 0, 0, 0],
-        FdtFault::BadToken,
-    ),
-    (
-        [
-            BEGIN_NODE, 0, END_NODE, BEGIN_NODE, 0, END_NODE, END, 0, 0, 0,
-        ],
-        FdtFault::BadToken,
-    ),
-    ([END_NODE, END, 0, 0, 0, 0, 0, 0, 0, 0], FdtFault::BadToken),
-    (
-        [PROP, 0, 0, BEGIN_NODE, 0, END_NODE, END, 0, 0, 0],
-        FdtFault::BadToken,
-    ),
-    (
-        [BEGIN_NODE, 0, END_NODE, PROP, 0, 0, END, 0, 0, 0],
-        FdtFault::BadToken,
-    ),
-    (
-        [BEGIN_NODE, 0, END_NODE, END_NODE, END, 0, 0, 0, 0, 0],
-        FdtFault::BadToken,
-    ),
-    ([BEGIN_NODE, 0, 5, 0, 0, 0, 0, 0, 0, 0], FdtFault::BadToken),
-    // names of nodes
-    (
-        [
-            BEGIN_NODE, 0, BEGIN_NODE, 0, END_NODE, END_NODE, END, 0, 0, 0,
-        ],
-        FdtFault::BadName,
-    ),
-    (
-        [
-            BEGIN_NODE, 0, BEGIN_NODE, 0x61200000, END_NODE, END_NODE, END, 0, 0, 0,
-        ],
-        FdtFault::BadName,
-    ),
-    (
-        [
-            BEGIN_NODE, 0, BEGIN_NODE, 0x2f000000, END_NODE, END_NODE, END, 0, 0, 0,
-        ],
-        FdtFault::BadName,
-    ),
-    (
-        [
-            BEGIN_NODE, 0, BEGIN_NODE, 0x7f000000, END_NODE, END_NODE, END, 0, 0, 0,
-        ],
-        FdtFault::BadName,
-    ),
-    (
-        [
-            BEGIN_NODE, 0, BEGIN_NODE, 0x61ff0000, END_NODE, END_NODE, END, 0, 0, 0,
-        ],
-        FdtFault::BadName,
-    ),
+    [END, 0, 0, 0, 0, 0, 0, 0, 0, 0],
+    [BEGIN_NODE, 0, END, 0, 0, 0, 0, 0, 0, 0],
+    [
+        BEGIN_NODE, 0, END_NODE, BEGIN_NODE, 0, END_NODE, END, 0, 0, 0,
+    ],
+    [END_NODE, END, 0, 0, 0, 0, 0, 0, 0, 0],
+    [PROP, 0, 0, BEGIN_NODE, 0, END_NODE, END, 0, 0, 0],
+    [BEGIN_NODE, 0, END_NODE, PROP, 0, 0, END, 0, 0, 0],
+    [BEGIN_NODE, 0, END_NODE, END_NODE, END, 0, 0, 0, 0, 0],
+    [BEGIN_NODE, 0, 5, 0, 0, 0, 0, 0, 0, 0],
     // a name without an end, which is not legal either
-    (
-        [
-            BEGIN_NODE, 0, BEGIN_NODE, 0x20202020, 0x20202020, 0x20202020, 0x20202020, 0x20202020,
-            0x20202020, 0x20202020,
-        ],
-        FdtFault::BadToken,
-    ),
-    // a property after a child: its length is checked before that, its name after
-    (
-        [BEGIN_NODE, 0, BEGIN_NODE, A, END_NODE, PROP, 13, 99, 0, 0],
-        FdtFault::BadToken,
-    ),
+    [
+        BEGIN_NODE, 0, BEGIN_NODE, 0x20202020, 0x20202020, 0x20202020, 0x20202020, 0x20202020,
+        0x20202020, 0x20202020,
+    ],
+    // a property after a child: its length is checked before that
+    [BEGIN_NODE, 0, BEGIN_NODE, A, END_NODE, PROP, 13, 99, 0, 0],
+    // a value that is too long, and one after which the block ends
+    [BEGIN_NODE, 0, PROP, 21, 99, 0, 0, 0, 0, 0],
+    [BEGIN_NODE, 0, PROP, 20, 0, 0, 0, 0, 0, 0],
+];
+
+// Such blocks with other faults.
+const OTHER_FAULTS: [([u32; 10], FdtFault); 3] = [
+    // a property after a child: its name is checked after that
     (
         [BEGIN_NODE, 0, BEGIN_NODE, A, END_NODE, PROP, 8, 99, 0, 0],
-        FdtFault::LateProperty,
+        LateProperty,
     ),
     // the value ends with the block, and its padding is cut off
     (
         [BEGIN_NODE, 0, BEGIN_NODE, A, END_NODE, PROP, 5, 99, 0, 0],
-        FdtFault::LateProperty,
+        LateProperty,
     ),
-    (
-        [BEGIN_NODE, 0, PROP, 21, 99, 0, 0, 0, 0, 0],
-        FdtFault::BadToken,
-    ),
-    (
-        [BEGIN_NODE, 0, PROP, 20, 99, 0, 0, 0, 0, 0],
-        FdtFault::BadString,
-    ),
-    (
-        [BEGIN_NODE, 0, PROP, 20, 0, 0, 0, 0, 0, 0],
-        FdtFault::BadToken,
-    ),
-    // names of properties: outside, without an end, empty, with a slash
-    (
-        [BEGIN_NODE, 0, PROP, 0, 13, END_NODE, END, 0, 0, 0],
-        FdtFault::BadString,
-    ),
-    (
-        [BEGIN_NODE, 0, PROP, 0, 9, END_NODE, END, 0, 0, 0],
-        FdtFault::BadString,
-    ),
-    (
-        [BEGIN_NODE, 0, PROP, 0, 3, END_NODE, END, 0, 0, 0],
-        FdtFault::BadName,
-    ),
-    (
-        [BEGIN_NODE, 0, PROP, 0, 8, END_NODE, END, 0, 0, 0],
-        FdtFault::BadName,
-    ),
-    (
-        [BEGIN_NODE, 0, PROP, 0, 4, END_NODE, END, 0, 0, 0],
-        FdtFault::BadName,
-    ),
+    ([BEGIN_NODE, 0, PROP, 20, 99, 0, 0, 0, 0, 0], BadString),
+];
+
+// Names of nodes that are not legal.
+const BAD_NAMES: [u32; 5] = [0, 0x61200000, 0x2f000000, 0x7f000000, 0x61ff0000];
+
+// Where names of properties begin that are outside, without an end, empty, with a slash, and their faults.
+const NAMES_OF_PROPERTIES: [(u32, FdtFault); 5] = [
+    (13, BadString),
+    (9, BadString),
+    (3, BadName),
+    (8, BadName),
+    (4, BadName),
 ];
 
 // The fault of a structure block, given the strings.
@@ -491,11 +427,32 @@ fn check_block(
     assert!(rt; fault(alloc, &bytes) == want, "{block:?}, {strings:?}");
 }
 
+// The fault of a structure block, given the strings `reg`, `a/b` and `tail` without its zero byte.
+fn check_tokens(rt: &impl Abort, alloc: Global, block: &[u32; 10], want: FdtFault) {
+    check_block(rt, alloc, block, b"reg\0a/b\0\0tail", Some(want));
+}
+
 #[test]
 fn faults_of_tokens(rt: HostRuntime) {
-    // the strings are `reg`, `a/b` and `tail` without its zero byte
-    for (block, want) in &TOKENS {
-        check_block(&rt, rt.alloc(), block, b"reg\0a/b\0\0tail", Some(*want));
+    for block in &BAD_TOKENS {
+        check_tokens(&rt, rt.alloc(), block, BadToken);
+    }
+    for (block, want) in &OTHER_FAULTS {
+        check_tokens(&rt, rt.alloc(), block, *want);
+    }
+}
+
+#[test]
+fn faults_of_names(rt: HostRuntime) {
+    for name in BAD_NAMES {
+        let block = [
+            BEGIN_NODE, 0, BEGIN_NODE, name, END_NODE, END_NODE, END, 0, 0, 0,
+        ];
+        check_tokens(&rt, rt.alloc(), &block, BadName);
+    }
+    for (place, want) in &NAMES_OF_PROPERTIES {
+        let block = [BEGIN_NODE, 0, PROP, 0, *place, END_NODE, END, 0, 0, 0];
+        check_tokens(&rt, rt.alloc(), &block, *want);
     }
 }
 
@@ -504,7 +461,7 @@ const WITH_PROPERTY: [u32; 7] = [BEGIN_NODE, 0, PROP, 0, 0, END_NODE, END];
 // A node's and a property's name of one byte.
 fn check_name(rt: &impl Abort, alloc: Global, byte: u32) {
     let legal = byte > 32 && byte < 127 && byte != 47;
-    let want = if legal { None } else { Some(FdtFault::BadName) };
+    let want = if legal { None } else { Some(BadName) };
     let name = byte.wrapping_mul(0x01000000);
     let node = [BEGIN_NODE, 0, BEGIN_NODE, name, END_NODE, END_NODE, END];
     check_block(rt, alloc, &node, b"", want);
@@ -546,9 +503,9 @@ type Depth = (u32, bool, Option<FdtFault>);
 const DEPTHS: [Depth; 5] = [
     (63, false, None),
     (64, false, None),
-    (64, true, Some(FdtFault::BadName)),
-    (65, false, Some(FdtFault::TooDeep)),
-    (65, true, Some(FdtFault::BadName)),
+    (64, true, Some(BadName)),
+    (65, false, Some(TooDeep)),
+    (65, true, Some(BadName)),
 ];
 
 fn check_depth(rt: &impl Abort, alloc: Global, row: &Depth) {
