@@ -1,8 +1,15 @@
 //! Each check of each command at its edge, with the next check holding too where both can.
-use crate::checks::{check_answer, check_owner_count, check_rim};
+use crate::checks::Act::{
+    Activate, Create, Data, Delegate, Measured, Rec, Ripas, Table, WithOneAux,
+};
+use crate::checks::{Act, check_answer, check_owner_count, check_rim, command_of, take_all};
 use crate::worked::{PARAMS, created, delegate_all};
-use rim_desc::{Command, Measurement, RealmParams, RecParams};
+use rim_desc::{Command, RealmParams};
 use rmm_model::Refused;
+use rmm_model::Refused::{
+    Assigned, AuxCount, BadParams, NotDelegated, NotFresh, NotRam, NotUndelegated,
+    OutsideProtected, RecIndex, State, Unaligned, WalkLevel,
+};
 use rmm_monitor::Monitor;
 use std::alloc::Global;
 use std::process::Abort;
@@ -19,67 +26,6 @@ const HALF: u64 = 1 << 39;
 const FREE: u64 = 0x9_0000_0000;
 
 const ODD: u64 = 0x9_0000_0800;
-
-/// A command, in short.
-#[derive(Clone, Copy)]
-enum Act {
-    Delegate(u64),
-    Create(u64, RealmParams),
-    /// The granule of a table, an IPA and a level.
-    Table(u64, u64, u8),
-    Ripas(u64, u64),
-    /// A granule and an IPA.
-    Data(u64, u64),
-    /// A page of which this byte of the content is 1.
-    Measured(u64, u64, usize),
-    /// A granule, flags, an MPIDR and two auxiliary granules.
-    Rec(u64, u64, u64, [u64; 2]),
-    /// A REC of this MPIDR with one auxiliary granule, where the monitor's RECs have two.
-    WithOneAux(u64),
-    Activate,
-}
-
-fn measured(granule: u64, ipa: u64, index: usize) -> Command {
-    let mut bytes = [0; 64];
-    bytes[index % 64] = 1;
-    Command::DataCreate {
-        granule,
-        ipa,
-        content: Some(Measurement { bytes }),
-    }
-}
-
-fn rec(rec: u64, flags: u64, mpidr: u64, aux: [u64; 2]) -> Command {
-    Command::RecCreate {
-        rec,
-        params: RecParams::new(flags, mpidr, 0, [0; 8], &aux),
-    }
-}
-
-fn with_one_aux(mpidr: u64) -> Command {
-    Command::RecCreate {
-        rec: FREE,
-        params: RecParams::new(1, mpidr, 0, [0; 8], &[FREE]),
-    }
-}
-
-fn command_of(act: &Act) -> Command {
-    match *act {
-        Act::Delegate(granule) => Command::Delegate { granule },
-        Act::Create(rd, params) => Command::RealmCreate { rd, params },
-        Act::Table(rtt, ipa, level) => Command::RttCreate { rtt, ipa, level },
-        Act::Ripas(base, top) => Command::InitRipas { base, top },
-        Act::Data(granule, ipa) => Command::DataCreate {
-            granule,
-            ipa,
-            content: None,
-        },
-        Act::Measured(granule, ipa, index) => measured(granule, ipa, index),
-        Act::Rec(granule, flags, mpidr, aux) => rec(granule, flags, mpidr, aux),
-        Act::WithOneAux(mpidr) => with_one_aux(mpidr),
-        Act::Activate => Command::Activate,
-    }
-}
 
 /// A command, and why it is refused; none where it is taken.
 type Row = (Act, Option<Refused>);
@@ -108,195 +54,109 @@ fn offer_all(rt: &impl Abort, monitor: &mut Monitor, rows: &[Row]) {
     }
 }
 
-const DELEGATE: [Row; 5] = [
-    (Act::Delegate(0x800), Some(Refused::Unaligned)),
-    (Act::Delegate(u64::MAX), Some(Refused::Unaligned)),
-    (Act::Delegate(0), None),
-    (Act::Delegate(u64::MAX - 4095), None),
-    (
-        Act::Delegate(u64::MAX - 4095),
-        Some(Refused::NotUndelegated),
-    ),
+const GRANULES: [Row; 5] = [
+    (Delegate(0x800), Some(Unaligned)),
+    (Delegate(u64::MAX), Some(Unaligned)),
+    (Delegate(0), None),
+    (Delegate(u64::MAX - 4095), None),
+    (Delegate(u64::MAX - 4095), Some(NotUndelegated)),
 ];
 
+/// The worked realm's parameters with another value of one of them.
+macro_rules! with {
+    ($name:ident: $value:expr) => {
+        RealmParams {
+            $name: $value,
+            ..PARAMS
+        }
+    };
+}
+
 const REALM_PARAMETERS: [Row; 13] = [
-    (
-        Act::Create(ODD, RealmParams { flags: 1, ..PARAMS }),
-        Some(Refused::BadParams),
-    ),
-    (
-        Act::Create(ODD, RealmParams { flags: 8, ..PARAMS }),
-        Some(Refused::BadParams),
-    ),
-    (
-        Act::Create(ODD, RealmParams { s2sz: 31, ..PARAMS }),
-        Some(Refused::BadParams),
-    ),
-    (
-        Act::Create(ODD, RealmParams { s2sz: 49, ..PARAMS }),
-        Some(Refused::BadParams),
-    ),
-    (
-        Act::Create(ODD, RealmParams { s2sz: 0, ..PARAMS }),
-        Some(Refused::BadParams),
-    ),
-    (
-        Act::Create(
-            ODD,
-            RealmParams {
-                s2sz: 255,
-                ..PARAMS
-            },
-        ),
-        Some(Refused::BadParams),
-    ),
-    (
-        Act::Create(ODD, RealmParams { s2sz: 44, ..PARAMS }),
-        Some(Refused::BadParams),
-    ),
-    (
-        Act::Create(
-            ODD,
-            RealmParams {
-                rtt_level_start: 2,
-                ..PARAMS
-            },
-        ),
-        Some(Refused::BadParams),
-    ),
-    (
-        Act::Create(
-            ODD,
-            RealmParams {
-                rtt_num_start: 1,
-                ..PARAMS
-            },
-        ),
-        Some(Refused::BadParams),
-    ),
-    (
-        Act::Create(
-            ODD,
-            RealmParams {
-                rtt_num_start: 0,
-                ..PARAMS
-            },
-        ),
-        Some(Refused::BadParams),
-    ),
-    (
-        Act::Create(
-            ODD,
-            RealmParams {
-                rtt_base: TABLES + 4096,
-                ..PARAMS
-            },
-        ),
-        Some(Refused::BadParams),
-    ),
-    (
-        Act::Create(
-            ODD,
-            RealmParams {
-                rtt_base: u64::MAX,
-                ..PARAMS
-            },
-        ),
-        Some(Refused::BadParams),
-    ),
-    (Act::Create(ODD, PARAMS), Some(Refused::Unaligned)),
+    (Create(ODD, with!(flags: 1)), Some(BadParams)),
+    (Create(ODD, with!(flags: 8)), Some(BadParams)),
+    (Create(ODD, with!(s2sz: 31)), Some(BadParams)),
+    (Create(ODD, with!(s2sz: 49)), Some(BadParams)),
+    (Create(ODD, with!(s2sz: 0)), Some(BadParams)),
+    (Create(ODD, with!(s2sz: 255)), Some(BadParams)),
+    (Create(ODD, with!(s2sz: 44)), Some(BadParams)),
+    (Create(ODD, with!(rtt_level_start: 2)), Some(BadParams)),
+    (Create(ODD, with!(rtt_num_start: 1)), Some(BadParams)),
+    (Create(ODD, with!(rtt_num_start: 0)), Some(BadParams)),
+    (Create(ODD, with!(rtt_base: TABLES + 4096)), Some(BadParams)),
+    (Create(ODD, with!(rtt_base: u64::MAX)), Some(BadParams)),
+    (Create(ODD, PARAMS), Some(Unaligned)),
 ];
 
 /// The last start tables that there can be.
-const LAST: RealmParams = RealmParams {
-    rtt_base: u64::MAX - 8191,
-    ..PARAMS
-};
+const LAST: RealmParams = with!(rtt_base: u64::MAX - 8191);
 
 const REALM_GRANULES: [Row; 10] = [
-    (Act::Create(FREE, PARAMS), Some(Refused::NotDelegated)),
-    (Act::Create(FREE, LAST), Some(Refused::NotDelegated)),
-    (Act::Delegate(TABLES), None),
-    (Act::Delegate(FREE), None),
-    (Act::Create(FREE, PARAMS), Some(Refused::NotDelegated)),
-    (Act::Delegate(TABLES + 4096), None),
-    (Act::Create(TABLES, PARAMS), Some(Refused::NotDelegated)),
-    (
-        Act::Create(TABLES + 4096, PARAMS),
-        Some(Refused::NotDelegated),
-    ),
-    (Act::Create(FREE, RealmParams { flags: 6, ..PARAMS }), None),
-    (
-        Act::Create(ODD, RealmParams { flags: 1, ..PARAMS }),
-        Some(Refused::State),
-    ),
+    (Create(FREE, PARAMS), Some(NotDelegated)),
+    (Create(FREE, LAST), Some(NotDelegated)),
+    (Delegate(TABLES), None),
+    (Delegate(FREE), None),
+    (Create(FREE, PARAMS), Some(NotDelegated)),
+    (Delegate(TABLES + 4096), None),
+    (Create(TABLES, PARAMS), Some(NotDelegated)),
+    (Create(TABLES + 4096, PARAMS), Some(NotDelegated)),
+    (Create(FREE, with!(flags: 6)), None),
+    (Create(ODD, with!(flags: 1)), Some(State)),
 ];
 
 const NO_REALM: [Row; 3] = [
-    (Act::Table(ODD, 1, 255), Some(Refused::State)),
-    (Act::Ripas(1, 0), Some(Refused::State)),
-    (Act::Data(ODD, 1), Some(Refused::State)),
+    (Table(ODD, 1, 255), Some(State)),
+    (Ripas(1, 0), Some(State)),
+    (Data(ODD, 1), Some(State)),
 ];
 
 const RTT_CREATE: [Row; 18] = [
-    (Act::Table(ODD, 1, 0), Some(Refused::BadParams)),
-    (Act::Table(ODD, 1, 1), Some(Refused::BadParams)),
-    (Act::Table(ODD, 1, 4), Some(Refused::BadParams)),
-    (Act::Table(ODD, 1, 255), Some(Refused::BadParams)),
-    (Act::Table(ODD, HALF, 2), Some(Refused::Unaligned)),
-    (
-        Act::Table(FREE, HALF + 0x20_0000, 2),
-        Some(Refused::Unaligned),
-    ),
-    (Act::Table(FREE, u64::MAX, 3), Some(Refused::Unaligned)),
-    (Act::Table(FREE, HALF, 3), Some(Refused::OutsideProtected)),
-    (
-        Act::Table(FREE, u64::MAX - (GIB - 1), 2),
-        Some(Refused::OutsideProtected),
-    ),
-    (Act::Table(FREE, HALF - GIB, 3), Some(Refused::WalkLevel)),
-    (Act::Table(FREE, HALF - GIB, 2), Some(Refused::NotDelegated)),
-    (Act::Delegate(FREE), None),
-    (Act::Table(FREE, HALF - GIB, 2), None),
-    (Act::Table(FREE, HALF - GIB, 2), Some(Refused::WalkLevel)),
-    (Act::Table(FREE, HALF - GIB, 3), Some(Refused::NotDelegated)),
-    (Act::Activate, None),
-    (Act::Delegate(FREE + 4096), None),
-    (Act::Table(FREE + 4096, HALF - 0x20_0000, 3), None),
+    (Table(ODD, 1, 0), Some(BadParams)),
+    (Table(ODD, 1, 1), Some(BadParams)),
+    (Table(ODD, 1, 4), Some(BadParams)),
+    (Table(ODD, 1, 255), Some(BadParams)),
+    (Table(ODD, HALF, 2), Some(Unaligned)),
+    (Table(FREE, HALF + 0x20_0000, 2), Some(Unaligned)),
+    (Table(FREE, u64::MAX, 3), Some(Unaligned)),
+    (Table(FREE, HALF, 3), Some(OutsideProtected)),
+    (Table(FREE, u64::MAX - (GIB - 1), 2), Some(OutsideProtected)),
+    (Table(FREE, HALF - GIB, 3), Some(WalkLevel)),
+    (Table(FREE, HALF - GIB, 2), Some(NotDelegated)),
+    (Delegate(FREE), None),
+    (Table(FREE, HALF - GIB, 2), None),
+    (Table(FREE, HALF - GIB, 2), Some(WalkLevel)),
+    (Table(FREE, HALF - GIB, 3), Some(NotDelegated)),
+    (Activate, None),
+    (Delegate(FREE + 4096), None),
+    (Table(FREE + 4096, HALF - 0x20_0000, 3), None),
 ];
 
 const INIT_RIPAS: [Row; 22] = [
-    (Act::Ripas(1, 1), Some(Refused::BadParams)),
-    (Act::Ripas(u64::MAX, 0), Some(Refused::BadParams)),
-    (Act::Ripas(1, u64::MAX), Some(Refused::Unaligned)),
-    (Act::Ripas(0, HALF + 1), Some(Refused::Unaligned)),
+    (Ripas(1, 1), Some(BadParams)),
+    (Ripas(u64::MAX, 0), Some(BadParams)),
+    (Ripas(1, u64::MAX), Some(Unaligned)),
+    (Ripas(0, HALF + 1), Some(Unaligned)),
+    (Ripas(4096, HALF + 4096), Some(OutsideProtected)),
+    (Ripas(4096, GIB), Some(WalkLevel)),
+    (Ripas(0, 4096), Some(WalkLevel)),
+    (Delegate(FREE), None),
+    (Table(FREE, 2 * GIB, 2), None),
+    (Ripas(HALF - GIB, HALF), None),
+    (Ripas(2 * GIB, 4 * GIB), Some(WalkLevel)),
+    (Ripas(GIB, 3 * GIB), Some(NotFresh)),
+    (Ripas(HALF - GIB, HALF), Some(NotFresh)),
+    (Ripas(3 * GIB, HALF), Some(NotFresh)),
+    (Ripas(HALF - GIB + 4096, HALF), Some(WalkLevel)),
     (
-        Act::Ripas(4096, HALF + 4096),
-        Some(Refused::OutsideProtected),
+        Ripas(HALF - GIB + 4096, HALF + 4096),
+        Some(OutsideProtected),
     ),
-    (Act::Ripas(4096, GIB), Some(Refused::WalkLevel)),
-    (Act::Ripas(0, 4096), Some(Refused::WalkLevel)),
-    (Act::Delegate(FREE), None),
-    (Act::Table(FREE, 2 * GIB, 2), None),
-    (Act::Ripas(HALF - GIB, HALF), None),
-    (Act::Ripas(2 * GIB, 4 * GIB), Some(Refused::WalkLevel)),
-    (Act::Ripas(GIB, 3 * GIB), Some(Refused::NotFresh)),
-    (Act::Ripas(HALF - GIB, HALF), Some(Refused::NotFresh)),
-    (Act::Ripas(3 * GIB, HALF), Some(Refused::NotFresh)),
-    (
-        Act::Ripas(HALF - GIB + 4096, HALF),
-        Some(Refused::WalkLevel),
-    ),
-    (
-        Act::Ripas(HALF - GIB + 4096, HALF + 4096),
-        Some(Refused::OutsideProtected),
-    ),
-    (Act::Ripas(GIB, 2 * GIB), None),
-    (Act::Ripas(2 * GIB, 3 * GIB), None),
-    (Act::Ripas(0, 2 * GIB), Some(Refused::NotFresh)),
-    (Act::Ripas(0, GIB), None),
-    (Act::Activate, None),
-    (Act::Ripas(1, 0), Some(Refused::State)),
+    (Ripas(GIB, 2 * GIB), None),
+    (Ripas(2 * GIB, 3 * GIB), None),
+    (Ripas(0, 2 * GIB), Some(NotFresh)),
+    (Ripas(0, GIB), None),
+    (Activate, None),
+    (Ripas(1, 0), Some(State)),
 ];
 
 /// Four start tables of 512 GiB.
@@ -308,29 +168,29 @@ const FOUR_TABLES: RealmParams = RealmParams {
 
 /// A run ends with its start table: here each of four covers 512 GiB.
 const START_TABLES: [Row; 13] = [
-    (Act::Delegate(TABLES), None),
-    (Act::Delegate(TABLES + 0x1000), None),
-    (Act::Delegate(TABLES + 0x2000), None),
-    (Act::Delegate(TABLES + 0x3000), None),
-    (Act::Delegate(TABLES + 0x4000), None),
-    (Act::Delegate(TABLES + 0x5000), None),
-    (Act::Delegate(TABLES + 0x6000), None),
-    (Act::Delegate(TABLES + 0x7000), None),
-    (Act::Delegate(FREE), None),
-    (Act::Create(FREE, FOUR_TABLES), None),
-    (Act::Ripas(HALF - GIB, HALF + GIB), Some(Refused::WalkLevel)),
-    (Act::Ripas(HALF - GIB, HALF), None),
-    (Act::Ripas(HALF, HALF + GIB), None),
+    (Delegate(TABLES), None),
+    (Delegate(TABLES + 0x1000), None),
+    (Delegate(TABLES + 0x2000), None),
+    (Delegate(TABLES + 0x3000), None),
+    (Delegate(TABLES + 0x4000), None),
+    (Delegate(TABLES + 0x5000), None),
+    (Delegate(TABLES + 0x6000), None),
+    (Delegate(TABLES + 0x7000), None),
+    (Delegate(FREE), None),
+    (Create(FREE, FOUR_TABLES), None),
+    (Ripas(HALF - GIB, HALF + GIB), Some(WalkLevel)),
+    (Ripas(HALF - GIB, HALF), None),
+    (Ripas(HALF, HALF + GIB), None),
 ];
 
 const DATA_PARAMETERS: [Row; 7] = [
-    (Act::Measured(ODD, 1, 32), Some(Refused::BadParams)),
-    (Act::Data(ODD, HALF), Some(Refused::Unaligned)),
-    (Act::Data(FREE, HALF + 1), Some(Refused::Unaligned)),
-    (Act::Data(FREE, HALF), Some(Refused::OutsideProtected)),
-    (Act::Data(FREE, HALF - 4096), Some(Refused::WalkLevel)),
-    (Act::Activate, None),
-    (Act::Measured(ODD, 1, 32), Some(Refused::State)),
+    (Measured(ODD, 1, 32), Some(BadParams)),
+    (Data(ODD, HALF), Some(Unaligned)),
+    (Data(FREE, HALF + 1), Some(Unaligned)),
+    (Data(FREE, HALF), Some(OutsideProtected)),
+    (Data(FREE, HALF - 4096), Some(WalkLevel)),
+    (Activate, None),
+    (Measured(ODD, 1, 32), Some(State)),
 ];
 
 const BASE: u64 = HALF - GIB;
@@ -338,82 +198,49 @@ const BASE: u64 = HALF - GIB;
 const BESIDE: u64 = HALF - GIB + 0x20_0000;
 
 const DATA_PAGES: [Row; 14] = [
-    (Act::Delegate(FREE), None),
-    (Act::Delegate(FREE + 4096), None),
-    (Act::Table(FREE, BASE, 2), None),
-    (Act::Ripas(BASE, BESIDE), None),
-    (Act::Table(FREE + 4096, BASE, 3), None),
-    (Act::Data(ODD - 0x800, BESIDE), Some(Refused::WalkLevel)),
-    (Act::Data(FREE, BASE), Some(Refused::NotDelegated)),
-    (Act::Delegate(FREE + 8192), None),
-    (Act::Data(FREE + 8192, BASE), None),
-    (Act::Delegate(FREE + 12288), None),
-    (Act::Table(FREE + 12288, BESIDE, 3), None),
-    (Act::Data(FREE, BASE), Some(Refused::Assigned)),
-    (Act::Data(FREE, BESIDE), Some(Refused::NotRam)),
-    (
-        Act::Measured(FREE, BESIDE - 4096, 31),
-        Some(Refused::NotDelegated),
-    ),
+    (Delegate(FREE), None),
+    (Delegate(FREE + 4096), None),
+    (Table(FREE, BASE, 2), None),
+    (Ripas(BASE, BESIDE), None),
+    (Table(FREE + 4096, BASE, 3), None),
+    (Data(ODD - 0x800, BESIDE), Some(WalkLevel)),
+    (Data(FREE, BASE), Some(NotDelegated)),
+    (Delegate(FREE + 8192), None),
+    (Data(FREE + 8192, BASE), None),
+    (Delegate(FREE + 12288), None),
+    (Table(FREE + 12288, BESIDE, 3), None),
+    (Data(FREE, BASE), Some(Assigned)),
+    (Data(FREE, BESIDE), Some(NotRam)),
+    (Measured(FREE, BESIDE - 4096, 31), Some(NotDelegated)),
 ];
 
 const NO_RECS: [Row; 2] = [
-    (Act::Rec(ODD, 0, 0, [ODD, ODD]), Some(Refused::State)),
-    (Act::Activate, Some(Refused::State)),
+    (Rec(ODD, 0, 0, [ODD, ODD]), Some(State)),
+    (Activate, Some(State)),
 ];
 
 const REC_PARAMETERS: [Row; 9] = [
-    (Act::Rec(ODD, 0, 0, [ODD, ODD]), Some(Refused::BadParams)),
-    (Act::Rec(ODD, 2, 0, [ODD, ODD]), Some(Refused::BadParams)),
-    (Act::Rec(ODD, 3, 0, [ODD, ODD]), Some(Refused::BadParams)),
-    (
-        Act::Rec(ODD, u64::MAX, 0, [ODD, ODD]),
-        Some(Refused::BadParams),
-    ),
-    (
-        Act::Rec(ODD, 1, 1 << 4, [ODD, ODD]),
-        Some(Refused::BadParams),
-    ),
-    (
-        Act::Rec(ODD, 1, 1 << 7, [ODD, ODD]),
-        Some(Refused::BadParams),
-    ),
-    (
-        Act::Rec(ODD, 1, 1 << 32, [ODD, ODD]),
-        Some(Refused::BadParams),
-    ),
-    (
-        Act::Rec(ODD, 1, 1 << 63, [ODD, ODD]),
-        Some(Refused::BadParams),
-    ),
-    (
-        Act::Rec(ODD, 1, u64::MAX, [ODD, ODD]),
-        Some(Refused::BadParams),
-    ),
+    (Rec(ODD, 0, 0, [ODD, ODD]), Some(BadParams)),
+    (Rec(ODD, 2, 0, [ODD, ODD]), Some(BadParams)),
+    (Rec(ODD, 3, 0, [ODD, ODD]), Some(BadParams)),
+    (Rec(ODD, u64::MAX, 0, [ODD, ODD]), Some(BadParams)),
+    (Rec(ODD, 1, 1 << 4, [ODD, ODD]), Some(BadParams)),
+    (Rec(ODD, 1, 1 << 7, [ODD, ODD]), Some(BadParams)),
+    (Rec(ODD, 1, 1 << 32, [ODD, ODD]), Some(BadParams)),
+    (Rec(ODD, 1, 1 << 63, [ODD, ODD]), Some(BadParams)),
+    (Rec(ODD, 1, u64::MAX, [ODD, ODD]), Some(BadParams)),
 ];
 
 const REC_INDICES: [Row; 9] = [
-    (Act::Rec(ODD, 1, 1, [FREE, FREE]), Some(Refused::Unaligned)),
-    (Act::Rec(FREE, 1, 1, [FREE, ODD]), Some(Refused::Unaligned)),
-    (Act::Rec(FREE, 1, 1, [FREE, FREE]), Some(Refused::RecIndex)),
-    (
-        Act::Rec(FREE, 1, 1 << 8, [FREE, FREE]),
-        Some(Refused::RecIndex),
-    ),
-    (
-        Act::Rec(FREE, 1, 1 << 16, [FREE, FREE]),
-        Some(Refused::RecIndex),
-    ),
-    (
-        Act::Rec(FREE, 1, 1 << 24, [FREE, FREE]),
-        Some(Refused::RecIndex),
-    ),
-    (
-        Act::Rec(FREE, 1, 0xffff_ff0f, [FREE, FREE]),
-        Some(Refused::RecIndex),
-    ),
-    (Act::WithOneAux(1), Some(Refused::RecIndex)),
-    (Act::WithOneAux(0), Some(Refused::AuxCount)),
+    (Rec(ODD, 1, 1, [FREE, FREE]), Some(Unaligned)),
+    (Rec(FREE, 1, 1, [FREE, ODD]), Some(Unaligned)),
+    (Rec(FREE, 1, 1, [FREE, FREE]), Some(RecIndex)),
+    (Rec(FREE, 1, 1 << 8, [FREE, FREE]), Some(RecIndex)),
+    (Rec(FREE, 1, 1 << 16, [FREE, FREE]), Some(RecIndex)),
+    (Rec(FREE, 1, 1 << 24, [FREE, FREE]), Some(RecIndex)),
+    (Rec(FREE, 1, 0xffff_ff0f, [FREE, FREE]), Some(RecIndex)),
+    (WithOneAux(FREE, 1), Some(RecIndex)),
+    (WithOneAux(FREE, 0), Some(AuxCount)),
 ];
 
 const SECOND: u64 = FREE + 4096;
@@ -421,39 +248,21 @@ const SECOND: u64 = FREE + 4096;
 const THIRD: u64 = FREE + 8192;
 
 const REC_GRANULES: [Row; 10] = [
-    (Act::Delegate(FREE), None),
-    (Act::Delegate(SECOND), None),
-    (
-        Act::Rec(FREE, 1, 0, [SECOND, THIRD]),
-        Some(Refused::NotDelegated),
-    ),
-    (
-        Act::Rec(THIRD, 1, 0, [FREE, SECOND]),
-        Some(Refused::NotDelegated),
-    ),
-    (
-        Act::Rec(FREE, 1, 0, [SECOND, SECOND]),
-        Some(Refused::NotDelegated),
-    ),
-    (
-        Act::Rec(FREE, 1, 0, [SECOND, FREE]),
-        Some(Refused::NotDelegated),
-    ),
-    (Act::Delegate(THIRD), None),
-    (Act::Rec(FREE, 1, 0, [THIRD, SECOND]), None),
-    (
-        Act::Rec(FREE, 1, 0, [THIRD, SECOND]),
-        Some(Refused::RecIndex),
-    ),
-    (
-        Act::Rec(FREE, 1, 1, [THIRD, SECOND]),
-        Some(Refused::NotDelegated),
-    ),
+    (Delegate(FREE), None),
+    (Delegate(SECOND), None),
+    (Rec(FREE, 1, 0, [SECOND, THIRD]), Some(NotDelegated)),
+    (Rec(THIRD, 1, 0, [FREE, SECOND]), Some(NotDelegated)),
+    (Rec(FREE, 1, 0, [SECOND, SECOND]), Some(NotDelegated)),
+    (Rec(FREE, 1, 0, [SECOND, FREE]), Some(NotDelegated)),
+    (Delegate(THIRD), None),
+    (Rec(FREE, 1, 0, [THIRD, SECOND]), None),
+    (Rec(FREE, 1, 0, [THIRD, SECOND]), Some(RecIndex)),
+    (Rec(FREE, 1, 1, [THIRD, SECOND]), Some(NotDelegated)),
 ];
 
 /// Lists of commands for a monitor without a realm, each after the number of a REC's auxiliary granules.
 const WITHOUT_A_REALM: [(u8, &[Row]); 6] = [
-    (0, &DELEGATE),
+    (0, &GRANULES),
     (0, &REALM_PARAMETERS),
     (0, &REALM_GRANULES),
     (0, &NO_REALM),
@@ -502,18 +311,12 @@ fn take_rec(rt: &impl Abort, monitor: &mut Monitor, index: u64) {
     let aux = [granule.saturating_add(4096), granule.saturating_add(8192)];
     delegate_all(rt, monitor, granule, 3);
     let mpidr = (index % 16).saturating_add((index / 16).saturating_mul(256));
-    check_answer(rt, monitor, &rec(granule, 1, mpidr, aux), Ok(()));
+    take_all(rt, monitor, &[Rec(granule, 1, mpidr, aux)]);
 }
 
 const AFTER_17: [Row; 2] = [
-    (
-        Act::Rec(FREE, 1, 0x100, [FREE, FREE]),
-        Some(Refused::RecIndex),
-    ),
-    (
-        Act::Rec(FREE, 1, 0x101, [FREE, FREE]),
-        Some(Refused::NotDelegated),
-    ),
+    (Rec(FREE, 1, 0x100, [FREE, FREE]), Some(RecIndex)),
+    (Rec(FREE, 1, 0x101, [FREE, FREE]), Some(NotDelegated)),
 ];
 
 /// The sixteenth REC is the last with Aff1 zero.
@@ -527,8 +330,8 @@ fn recs_count_on(rt: HostRuntime) {
 }
 
 const ACTIVATED: [Row; 2] = [
-    (Act::Activate, Some(Refused::State)),
-    (Act::Rec(ODD, 0, 0, [ODD, ODD]), Some(Refused::State)),
+    (Activate, Some(State)),
+    (Rec(ODD, 0, 0, [ODD, ODD]), Some(State)),
 ];
 
 #[test]

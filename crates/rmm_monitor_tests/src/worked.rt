@@ -1,6 +1,9 @@
 //! Whole lists of commands. The measurements are those of Python's hashlib over pages and descriptors
 //! that were laid out by hand.
-use crate::checks::{check_answer, check_owner, check_owner_count, check_rim, take_all};
+use crate::checks::Act::{Activate, Create, Data, Delegate, Ripas, Table};
+use crate::checks::{
+    Act, check_answer, check_owner, check_owner_count, check_rim, command_of, take_all,
+};
 use rim_desc::{Algo, Command, Measurement, NO_NUMBERS, RealmNumbers, RealmParams, RecParams};
 use rmm_model::{Kind, Refused};
 use rmm_monitor::Monitor;
@@ -43,68 +46,35 @@ pub const PARAMS: RealmParams = RealmParams {
 };
 
 /// The commands of the worked list up to the realm's creation.
-const CREATION: [Command; 4] = [
-    Command::Delegate {
-        granule: 0x8_0000_0000,
-    },
-    Command::Delegate {
-        granule: 0x8_0000_1000,
-    },
-    Command::Delegate {
-        granule: 0x8_0000_2000,
-    },
-    Command::RealmCreate {
-        rd: 0x8_0000_2000,
-        params: PARAMS,
-    },
+const CREATION: [Act; 4] = [
+    Delegate(0x8_0000_0000),
+    Delegate(0x8_0000_1000),
+    Delegate(0x8_0000_2000),
+    Create(0x8_0000_2000, PARAMS),
 ];
 
-const TABLE_OF_LEVEL_3: Command = Command::RttCreate {
-    rtt: 0x8_0000_4000,
-    ipa: 0x4000_0000,
-    level: 3,
-};
+const TABLE_OF_LEVEL_3: Act = Table(0x8_0000_4000, 0x4000_0000, 3);
 
 /// The commands after it: those before the table of level 2, up to the table of level 3, and after that.
-const RAM: [Command; 2] = [
-    Command::InitRipas {
-        base: 0x4000_0000,
-        top: 0xc000_0000,
-    },
-    Command::Delegate {
-        granule: 0x8_0000_3000,
-    },
-];
+const RAM: [Act; 2] = [Ripas(0x4000_0000, 0xc000_0000), Delegate(0x8_0000_3000)];
 
-const TABLES: [Command; 3] = [
-    Command::RttCreate {
-        rtt: 0x8_0000_3000,
-        ipa: 0x4000_0000,
-        level: 2,
-    },
-    Command::Delegate {
-        granule: 0x8_0000_4000,
-    },
+const TABLES: [Act; 3] = [
+    Table(0x8_0000_3000, 0x4000_0000, 2),
+    Delegate(0x8_0000_4000),
     TABLE_OF_LEVEL_3,
 ];
 
-const DATA: [Command; 3] = [
-    Command::Delegate {
-        granule: 0x8_0000_5000,
-    },
-    Command::DataCreate {
-        granule: 0x8_0000_5000,
-        ipa: 0x4000_0000,
-        content: None,
-    },
-    Command::Activate,
+const PAGE: [Act; 3] = [
+    Delegate(0x8_0000_5000),
+    Data(0x8_0000_5000, 0x4000_0000),
+    Activate,
 ];
 
 /// Applies the commands after the realm's creation.
 fn fill(rt: &impl Abort, monitor: &mut Monitor) {
     take_all(rt, monitor, &RAM);
     take_all(rt, monitor, &TABLES);
-    take_all(rt, monitor, &DATA);
+    take_all(rt, monitor, &PAGE);
 }
 
 /// The worked realm, created.
@@ -149,21 +119,16 @@ fn level_3_before_level_2(rt: HostRuntime) {
     take_all(&rt, &mut monitor, &CREATION);
     take_all(&rt, &mut monitor, &RAM);
     let early = Err(Refused::WalkLevel);
-    check_answer(&rt, &mut monitor, &TABLE_OF_LEVEL_3, early);
+    check_answer(&rt, &mut monitor, &command_of(&TABLE_OF_LEVEL_3), early);
     take_all(&rt, &mut monitor, &TABLES);
-    take_all(&rt, &mut monitor, &DATA);
+    take_all(&rt, &mut monitor, &PAGE);
     check_rim(&rt, &monitor, Some(Measurement { bytes: WORKED }));
 }
 
-const AGAIN: Command = Command::Delegate {
-    granule: 0x8_0000_4000,
-};
+/// The granule of the table of level 3, delegated again, and as data.
+const AGAIN: Act = Delegate(0x8_0000_4000);
 
-const IN_TABLE: Command = Command::DataCreate {
-    granule: 0x8_0000_4000,
-    ipa: 0x4000_0000,
-    content: None,
-};
+const IN_TABLE: Act = Data(0x8_0000_4000, 0x4000_0000);
 
 #[test]
 fn granules_have_one_owner(rt: HostRuntime) {
@@ -171,8 +136,9 @@ fn granules_have_one_owner(rt: HostRuntime) {
     take_all(&rt, &mut monitor, &CREATION);
     take_all(&rt, &mut monitor, &RAM);
     take_all(&rt, &mut monitor, &TABLES);
-    check_answer(&rt, &mut monitor, &AGAIN, Err(Refused::NotUndelegated));
-    check_answer(&rt, &mut monitor, &IN_TABLE, Err(Refused::NotDelegated));
+    let (again, in_table) = (command_of(&AGAIN), command_of(&IN_TABLE));
+    check_answer(&rt, &mut monitor, &again, Err(Refused::NotUndelegated));
+    check_answer(&rt, &mut monitor, &in_table, Err(Refused::NotDelegated));
     check_owner(&rt, &monitor, 0x8_0000_4000, Some(Kind::Rtt));
     check_owner_count(&rt, &monitor, 5);
 }
@@ -201,26 +167,17 @@ const CONTENT: [u8; 64] = [
     0x30, 0x31, 0x32, 0x33, 0x34, 0x35, 0x36, 0x37, 0x38, 0x39, 0x3a, 0x3b, 0x3c, 0x3d, 0x3e, 0x3f,
 ];
 
-const MIXED_COMMANDS: [Command; 4] = [
-    Command::RealmCreate {
-        rd: 0x10_8000,
-        params: MIXED_PARAMS,
-    },
-    Command::RttCreate {
-        rtt: 0x10_9000,
-        ipa: 0x4000_0000,
-        level: 3,
-    },
-    Command::InitRipas {
-        base: 0x4000_0000,
-        top: 0x4000_2000,
-    },
-    Command::DataCreate {
-        granule: 0x10_a000,
-        ipa: 0x4000_1000,
-        content: Some(Measurement { bytes: CONTENT }),
-    },
+const MIXED_REALM: [Act; 3] = [
+    Create(0x10_8000, MIXED_PARAMS),
+    Table(0x10_9000, 0x4000_0000, 3),
+    Ripas(0x4000_0000, 0x4000_2000),
 ];
+
+const MIXED_PAGE: Command = Command::DataCreate {
+    granule: 0x10_a000,
+    ipa: 0x4000_1000,
+    content: Some(Measurement { bytes: CONTENT }),
+};
 
 /// Delegates granules side by side, from the first on.
 pub fn delegate_all(rt: &impl Abort, monitor: &mut Monitor, first: u64, count: u64) {
@@ -242,7 +199,8 @@ fn mixed_rec() -> Command {
 fn sha512_with_data_and_rec(rt: HostRuntime) {
     let mut monitor = Monitor::new(rt.alloc(), 1, None);
     delegate_all(&rt, &mut monitor, 0x10_0000, 16);
-    take_all(&rt, &mut monitor, &MIXED_COMMANDS);
+    take_all(&rt, &mut monitor, &MIXED_REALM);
+    check_answer(&rt, &mut monitor, &MIXED_PAGE, Ok(()));
     check_answer(&rt, &mut monitor, &mixed_rec(), Ok(()));
     check_answer(&rt, &mut monitor, &Command::Activate, Ok(()));
     check_rim(&rt, &monitor, Some(Measurement { bytes: MIXED }));
@@ -261,9 +219,9 @@ fn retry(rt: &impl Abort, monitor: &mut Monitor, command: &Command) {
     }
 }
 
-fn retry_all(rt: &impl Abort, monitor: &mut Monitor, commands: &[Command]) {
-    for command in commands {
-        retry(rt, monitor, command);
+fn retry_all(rt: &impl Abort, monitor: &mut Monitor, acts: &[Act]) {
+    for act in acts {
+        retry(rt, monitor, &command_of(act));
     }
 }
 
@@ -274,7 +232,7 @@ fn refused_growth_changes_nothing(rt: HostRuntime) {
     retry_all(&rt, &mut monitor, &CREATION);
     retry_all(&rt, &mut monitor, &RAM);
     retry_all(&rt, &mut monitor, &TABLES);
-    retry_all(&rt, &mut monitor, &DATA);
+    retry_all(&rt, &mut monitor, &PAGE);
     check_rim(&rt, &monitor, Some(Measurement { bytes: WORKED }));
     check_owner_count(&rt, &monitor, 6);
 }
