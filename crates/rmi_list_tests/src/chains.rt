@@ -3,7 +3,7 @@ ghost use Rattle.std.specs.Prelude.{◌≡◌, ◌<◌, length, Ok};
 ghost use Rattle.rim_desc.specs.declared.measurement.Algo.TheVariants.{Sha256};
 ghost use Rattle.rmi_list.specs.Listed.{listed};
 
-use crate::launches::{Parts, WIDE, check, config, files_of, launch_of, placed_of};
+use crate::launches::{NOTHING, Parts, WIDE, check, config, files_of, launch_of, placed_of};
 use ipa_layout::{Placed, PlacedItem};
 use page_jobs::{Blob, DigestRow, Page, PageJob, Table};
 use page_jobs_tests::distinct_pages;
@@ -158,25 +158,14 @@ const GIB: u64 = 0x4000_0000;
 type Row = (&'static str, Config, Parts, usize);
 
 const ROWS: [Row; 4] = [
-    (
-        "nothing but a realm",
-        WIDE,
-        Parts {
-            ram: &[],
-            items: &[],
-            recs: &[],
-            steps: &[],
-        },
-        0,
-    ),
+    ("nothing but a realm", WIDE, NOTHING, 0),
     (
         "a page of data that is not measured in a block of 1 GiB",
         WIDE,
         Parts {
             ram: &[(GIB, 0xc000_0000)],
             items: &[(GIB, 4096, false)],
-            recs: &[],
-            steps: &[],
+            ..NOTHING
         },
         0,
     ),
@@ -191,7 +180,6 @@ const ROWS: [Row; 4] = [
                 (0x4020_0000, 12288, false),
                 (0x4030_0000, 0, true),
             ],
-            recs: &[],
             steps: &[
                 Step::Ram(0),
                 Step::Item(1),
@@ -200,6 +188,7 @@ const ROWS: [Row; 4] = [
                 Step::Item(3),
                 Step::Ram(1),
             ],
+            ..NOTHING
         },
         4,
     ),
@@ -210,7 +199,7 @@ const ROWS: [Row; 4] = [
             ram: &[(GIB, 0x4020_2000)],
             items: &[(0x4020_1000, 4096, true)],
             recs: &[true, true],
-            steps: &[],
+            ..NOTHING
         },
         1,
     ),

@@ -38,6 +38,7 @@ pub const CONFIG: Config = config!(33, 2, 0, 16_777_216);
 pub const WIDE: Config = config!(40, 1, 0, 16_777_216);
 
 /// What a launch of a row has beside its configuration.
+#[derive(Clone, Copy)]
 pub struct Parts {
     /// Regions, from their first address to the first past them.
     pub ram: &'static [(u64, u64)],
@@ -49,6 +50,14 @@ pub struct Parts {
     /// The steps; the default ones where none is named.
     pub steps: &'static [Step],
 }
+
+/// A launch without parts.
+pub const NOTHING: Parts = Parts {
+    ram: &[],
+    items: &[],
+    recs: &[],
+    steps: &[],
+};
 
 pub fn check(rt: &impl Abort, holds: bool, name: &str) {
     assert!(rt; holds, "{name}");

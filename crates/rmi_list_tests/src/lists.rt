@@ -1,5 +1,5 @@
 //! The commands of worked launches, line by line. The granules before the realm are left out but for one row.
-use crate::launches::{CONFIG, Parts, WIDE, check, launch_of, list_of};
+use crate::launches::{CONFIG, NOTHING, Parts, WIDE, check, launch_of, list_of};
 use rim_desc::{Command, Measurement};
 use rim_launch::{Config, Step};
 use rmi_line::print_line;
@@ -41,12 +41,7 @@ const ROWS: [Row; 8] = [
     (
         "nothing but a realm",
         CONFIG,
-        Parts {
-            ram: &[],
-            items: &[],
-            recs: &[],
-            steps: &[],
-        },
+        NOTHING,
         8,
         "delegate 0000000800008000\nrealm_create 0000000800008000 0000000800000000 2 8 33 sha256 0000000000000000 0 0 0 0 00000000000000000000000000000000000000000000000000000000000000000000000000000000000000000000000000000000000000000000000000000000\nactivate\n",
     ),
@@ -55,9 +50,8 @@ const ROWS: [Row; 8] = [
         CONFIG,
         Parts {
             ram: &[(0x4000_0000, 0x4020_1000)],
-            items: &[],
-            recs: &[],
             steps: &[Step::Ram(0)],
+            ..NOTHING
         },
         10,
         "init_ripas 0000000040000000 0000000040200000\ndelegate 0000000800009000\nrtt_create 0000000800009000 0000000040200000 3\ninit_ripas 0000000040200000 0000000040201000\nactivate\n",
@@ -67,9 +61,8 @@ const ROWS: [Row; 8] = [
         CONFIG,
         Parts {
             ram: &[(0x4000_1000, 0x4040_0000)],
-            items: &[],
-            recs: &[],
             steps: &[Step::Ram(0)],
+            ..NOTHING
         },
         10,
         "delegate 0000000800009000\nrtt_create 0000000800009000 0000000040000000 3\ninit_ripas 0000000040001000 0000000040200000\ninit_ripas 0000000040200000 0000000040400000\nactivate\n",
@@ -79,9 +72,8 @@ const ROWS: [Row; 8] = [
         WIDE,
         Parts {
             ram: &[(0x4000_0000, 0xc000_0000)],
-            items: &[],
-            recs: &[],
             steps: &[Step::Ram(0)],
+            ..NOTHING
         },
         4,
         "init_ripas 0000000040000000 00000000c0000000\nactivate\n",
@@ -92,8 +84,8 @@ const ROWS: [Row; 8] = [
         Parts {
             ram: &[(0x4000_0000, 0xc000_0000)],
             items: &[(0x4000_0000, 4096, false)],
-            recs: &[],
             steps: &[Step::Ram(0), Step::Item(0)],
+            ..NOTHING
         },
         0,
         "delegate 0000000800000000\ndelegate 0000000800001000\ndelegate 0000000800002000\nrealm_create 0000000800002000 0000000800000000 1 2 40 sha256 0000000000000000 0 0 0 0 00000000000000000000000000000000000000000000000000000000000000000000000000000000000000000000000000000000000000000000000000000000\ninit_ripas 0000000040000000 00000000c0000000\ndelegate 0000000800003000\nrtt_create 0000000800003000 0000000040000000 2\ndelegate 0000000800004000\nrtt_create 0000000800004000 0000000040000000 3\ndelegate 0000000800005000\ndata_create 0000000800005000 0000000040000000 unmeasured\nactivate\n",
@@ -104,8 +96,8 @@ const ROWS: [Row; 8] = [
         Parts {
             ram: &[(0x4000_0000, 0xc000_0000), (0xc000_0000, 0xc020_0000)],
             items: &[(0x4000_0000, 4096, false)],
-            recs: &[],
             steps: &[Step::Ram(0), Step::Item(0), Step::Ram(1)],
+            ..NOTHING
         },
         11,
         "delegate 0000000800006000\nrtt_create 0000000800006000 00000000c0000000 2\ninit_ripas 00000000c0000000 00000000c0200000\nactivate\n",
@@ -116,8 +108,8 @@ const ROWS: [Row; 8] = [
         Parts {
             ram: &[(0x4000_0000, 0x4020_0000)],
             items: &[(0x4000_0004, 4096, true), (0x4010_0000, 0, true)],
-            recs: &[],
             steps: &[Step::Ram(0), Step::Item(1), Step::Item(0)],
+            ..NOTHING
         },
         11,
         "delegate 0000000800009000\nrtt_create 0000000800009000 0000000040000000 3\ndelegate 000000080000a000\ndata_create 000000080000a000 0000000040000000 measured abababababababababababababababababababababababababababababababababababababababababababababababababababababababababababababababab\ndelegate 000000080000b000\ndata_create 000000080000b000 0000000040001000 measured abababababababababababababababababababababababababababababababababababababababababababababababababababababababababababababababab\nactivate\n",
@@ -126,10 +118,9 @@ const ROWS: [Row; 8] = [
         "two RECs",
         CONFIG,
         Parts {
-            ram: &[],
-            items: &[],
             recs: &[true, true],
             steps: &[Step::Rec(0), Step::Rec(1)],
+            ..NOTHING
         },
         10,
         "delegate 0000000800009000\nrec_create 0000000800009000 0000000000000001 0000000000000000 0000000040080000 0000000000000000 0000000000000000 0000000000000000 0000000000000000 0000000000000000 0000000000000000 0000000000000000 0000000000000000 0\ndelegate 000000080000a000\nrec_create 000000080000a000 0000000000000001 0000000000000001 0000000040080000 0000000000000000 0000000000000000 0000000000000000 0000000000000000 0000000000000000 0000000000000000 0000000000000000 0000000000000000 0\nactivate\n",
@@ -147,8 +138,7 @@ fn worked_lists(rt: HostRuntime) {
 const OVER_TWO_TABLES: Parts = Parts {
     ram: &[(0x4000_0000, 0x4060_0000)],
     items: &[(0x4010_0000, 0x30_0000, true)],
-    recs: &[],
-    steps: &[],
+    ..NOTHING
 };
 
 /// Numbers of commands of its list, and the commands.

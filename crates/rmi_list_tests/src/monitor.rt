@@ -1,6 +1,6 @@
 //! A monitor follows the lists of worked launches: it takes each command, and its Realm Initial Measurement is the fold
 //! over parts that were written by hand.
-use crate::launches::{CONFIG, Parts, WIDE, check, config, launch_of, list_of};
+use crate::launches::{CONFIG, NOTHING, Parts, WIDE, check, config, launch_of, list_of};
 use rim_desc::{
     Algo, Measurement, data_descriptor, extend, hash, rec_descriptor, ripas_descriptor,
 };
@@ -75,11 +75,8 @@ fn check_row(rt: &impl Abort, alloc: Global, row: &Row) {
     let (name, config, parts, measured) = row;
     let launch = launch_of(rt, alloc, config, parts);
     let rim = followed(rt, alloc, &launch);
-    check(
-        rt,
-        rim == Some(rim_of(Algo::Sha256, config.s2sz, measured)),
-        name,
-    );
+    let is_measured = rim == Some(rim_of(Algo::Sha256, config.s2sz, measured));
+    check(rt, is_measured, name);
 }
 
 const GIB: u64 = 0x4000_0000;
@@ -94,9 +91,7 @@ const ROWS: [Row; 10] = [
         CONFIG,
         Parts {
             ram: &[(GIB, 0x4020_1000)],
-            items: &[],
-            recs: &[],
-            steps: &[],
+            ..NOTHING
         },
         &[
             Measured::Blocks(GIB, 1, MIB_2),
@@ -108,9 +103,7 @@ const ROWS: [Row; 10] = [
         CONFIG,
         Parts {
             ram: &[(0x4000_1000, 0x4040_0000)],
-            items: &[],
-            recs: &[],
-            steps: &[],
+            ..NOTHING
         },
         &[
             Measured::Blocks(0x4000_1000, 511, 4096),
@@ -122,9 +115,7 @@ const ROWS: [Row; 10] = [
         WIDE,
         Parts {
             ram: &[(GIB, 0xc000_0000)],
-            items: &[],
-            recs: &[],
-            steps: &[],
+            ..NOTHING
         },
         &[Measured::Blocks(GIB, 2, GIB)],
     ),
@@ -133,9 +124,7 @@ const ROWS: [Row; 10] = [
         config!(40, 2, 0, 16_777_216),
         Parts {
             ram: &[(GIB, 0xc000_0000)],
-            items: &[],
-            recs: &[],
-            steps: &[],
+            ..NOTHING
         },
         &[Measured::Blocks(GIB, 1024, MIB_2)],
     ),
@@ -145,8 +134,7 @@ const ROWS: [Row; 10] = [
         Parts {
             ram: &[(GIB, 0xc000_0000)],
             items: &[(GIB, 4096, false)],
-            recs: &[],
-            steps: &[],
+            ..NOTHING
         },
         &[Measured::Blocks(GIB, 2, GIB), Measured::Page(GIB, false)],
     ),
@@ -156,8 +144,8 @@ const ROWS: [Row; 10] = [
         Parts {
             ram: &[(GIB, 0xc000_0000), (0xc000_0000, 0xc020_0000)],
             items: &[(GIB, 8192, true)],
-            recs: &[],
             steps: &[Step::Ram(0), Step::Item(0), Step::Ram(1)],
+            ..NOTHING
         },
         &[
             Measured::Blocks(GIB, 2, GIB),
@@ -172,8 +160,7 @@ const ROWS: [Row; 10] = [
         Parts {
             ram: &[(0x7fe0_0000, 0x8000_0000)],
             items: &[(0x7fff_f000, 4096, true)],
-            recs: &[],
-            steps: &[],
+            ..NOTHING
         },
         &[
             Measured::Blocks(0x7fe0_0000, 1, MIB_2),
@@ -186,8 +173,7 @@ const ROWS: [Row; 10] = [
         Parts {
             ram: &[(0x7f80_0000_0000, 0x8000_0000_0000)],
             items: &[(0x7fff_ffff_f000, 4096, true)],
-            recs: &[],
-            steps: &[],
+            ..NOTHING
         },
         &[
             Measured::Blocks(0x7f80_0000_0000, 1, 0x80_0000_0000),
@@ -199,9 +185,7 @@ const ROWS: [Row; 10] = [
         config!(43, 0, 0, 16_777_216),
         Parts {
             ram: &[(0x3fff_f000, 0xc000_1000)],
-            items: &[],
-            recs: &[],
-            steps: &[],
+            ..NOTHING
         },
         &[
             Measured::Blocks(0x3fff_f000, 1, 4096),
@@ -214,9 +198,8 @@ const ROWS: [Row; 10] = [
         config!(33, 3, 16, 16_777_216),
         Parts {
             ram: &[(GIB, 0x4000_2000)],
-            items: &[],
             recs: &[true],
-            steps: &[],
+            ..NOTHING
         },
         &[Measured::Blocks(GIB, 2, 4096), Measured::Rec],
     ),
