@@ -1,17 +1,10 @@
 //! Each fault of a devicetree, as a launch that changes it is refused for it.
-use crate::placements::{Asked, CHOSEN, Case, EMPTY, LARGE, What, check_case, files};
+use crate::placements::{Asked, Case, LARGE, What, check_case, files};
 use fdt_tree::FdtFault;
+use fdt_tree_tests::vectors::{CHOSEN, EMPTY, LATE};
 use ipa_layout::LayoutFault;
 use std::alloc::Global;
 use std::process::Abort;
-
-/// A root with a node `a`, and after it a property `reg`, where none is allowed. Written out by hand.
-const LATE: [u8; 100] = [
-    0xd0, 0x0d, 0xfe, 0xed, 0, 0, 0, 0x64, 0, 0, 0, 0x38, 0, 0, 0, 0x60, 0, 0, 0, 0x28, 0, 0, 0,
-    0x11, 0, 0, 0, 0x10, 0, 0, 0, 0, 0, 0, 0, 4, 0, 0, 0, 0x28, 0, 0, 0, 0, 0, 0, 0, 0, 0, 0, 0, 0,
-    0, 0, 0, 0, 0, 0, 0, 1, 0, 0, 0, 0, 0, 0, 0, 1, 0x61, 0, 0, 0, 0, 0, 0, 2, 0, 0, 0, 3, 0, 0, 0,
-    0, 0, 0, 0, 0, 0, 0, 0, 2, 0, 0, 0, 9, 0x72, 0x65, 0x67, 0,
-];
 
 /// The begin of a node `a`.
 const BEGIN_A: [u8; 8] = [0, 0, 0, 1, 0x61, 0, 0, 0];
@@ -76,11 +69,7 @@ const ASKED: [Asked; 1] = [(What::Edited, 0x4000_0000, None)];
 fn check_row(rt: &impl Abort, alloc: Global, row: &Row, number: usize) {
     let bytes = devicetree(rt, alloc, row);
     let files = files(rt, alloc, &[&[], &[], &bytes]);
-    let case = Case {
-        ram: &LARGE,
-        items: &ASKED,
-        wanted: Err(LayoutFault::Dtb(row.4)),
-    };
+    let case: Case = (&LARGE, &ASKED, Err(LayoutFault::Dtb(row.4)));
     check_case(rt, alloc, &files, &case, "a devicetree", number);
 }
 

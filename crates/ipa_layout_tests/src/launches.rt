@@ -1,16 +1,14 @@
 //! Which parts make a launch.
-use crate::placements::{REC, check};
-use ipa_layout::{
-    Bootargs, Config, Edits, Item, ItemKind, Launch, Region, Role, Step, default_steps,
-};
-use rim_desc::{Algo, NO_NUMBERS};
+use crate::placements;
+use crate::placements::{REC, check, config};
+use ipa_layout::{Bootargs, Config, Item, ItemKind, Launch, Region, Role, Step, default_steps};
 use std::alloc::Global;
 use std::process::Abort;
 
 fn item(rt: &impl Abort, kind: ItemKind) -> Item {
-    let measured = kind.role() != Role::Unknown;
-    let size = if measured { None } else { Some(4096) };
-    Item::new(kind, 0x4000_0000, size, measured).expect(rt, "an item")
+    let has_size = kind.role() == Role::Unknown;
+    let size = if has_size { Some(4096) } else { None };
+    placements::item(rt, kind, 0x4000_0000, size)
 }
 
 /// A kernel, or raw content.
@@ -39,19 +37,7 @@ fn steps_of(rt: &impl Abort, alloc: Global, steps: &[Step]) -> Vec<Step> {
 }
 
 /// With IPAs of 33 bits.
-const NARROW: Config = Config {
-    algo: Algo::Sha256,
-    s2sz: 33,
-    sve: false,
-    pmu: false,
-    numbers: NO_NUMBERS,
-    rpv: [0; 64],
-    block_level: 2,
-    num_aux: 0,
-    rec_rule: None,
-    pool_base: 0x8_0000_0000,
-    pool_count: 16_777_216,
-};
+const NARROW: Config = config!(33);
 
 const REGION: Region = Region {
     base: 0x4000_0000,
@@ -115,12 +101,7 @@ const KINDS_IN_ORDER: [Step; 10] = [
 
 /// A devicetree, and whether it is to have the place of the initrd.
 fn dtb(rt: &impl Abort, initrd: bool) -> Item {
-    let edits = Edits {
-        bootargs: None,
-        initrd,
-        memory: false,
-    };
-    item(rt, ItemKind::Dtb { file: 0, edits })
+    item(rt, placements::dtb(initrd, false))
 }
 
 /// Unknown content, raw content, a devicetree, an initrd, a kernel, and raw content.
@@ -139,11 +120,8 @@ fn six_items(rt: &impl Abort, alloc: Global) -> Vec<Item> {
 fn default_steps_by_kind(rt: HostRuntime) {
     let items = six_items(&rt, rt.alloc());
     let steps = default_steps(rt.alloc(), 2, &items, 2).expect(&rt, "memory");
-    check(
-        &rt,
-        steps.as_slice() == KINDS_IN_ORDER.as_slice(),
-        "the steps",
-    );
+    let are_in_order = steps.as_slice() == KINDS_IN_ORDER.as_slice();
+    check(&rt, are_in_order, "the steps");
 }
 
 /// A base, an end, and whether they make a region.

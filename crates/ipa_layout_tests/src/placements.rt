@@ -1,32 +1,16 @@
 //! Whole launches as they are placed, and why others are not.
 use fdt_tree::Tree;
+use fdt_tree_tests::vectors::{CHOSEN, EMPTY};
 use ipa_layout::{
     Bootargs, Config, Edits, Item, ItemKind, Launch, LayoutFault, Placed, PlacedItem, PlacedRec,
     Rec, Region, Role, Source, Step, place,
 };
-use rim_desc::{Algo, NO_NUMBERS};
 use std::alloc::Global;
 use std::process::Abort;
 
 pub fn check(rt: &impl Abort, holds: bool, name: &str) {
     assert!(rt; holds, "{name}");
 }
-
-/// An empty root, written out by hand.
-pub const EMPTY: [u8; 72] = [
-    0xd0, 0x0d, 0xfe, 0xed, 0, 0, 0, 0x48, 0, 0, 0, 0x38, 0, 0, 0, 0x48, 0, 0, 0, 0x28, 0, 0, 0,
-    0x11, 0, 0, 0, 0x10, 0, 0, 0, 0, 0, 0, 0, 0, 0, 0, 0, 0x10, 0, 0, 0, 0, 0, 0, 0, 0, 0, 0, 0, 0,
-    0, 0, 0, 0, 0, 0, 0, 1, 0, 0, 0, 0, 0, 0, 0, 2, 0, 0, 0, 9,
-];
-
-/// A root with a node `chosen`, whose one property `bootargs` is `quiet` and a zero byte.
-pub const CHOSEN: [u8; 117] = [
-    0xd0, 0x0d, 0xfe, 0xed, 0, 0, 0, 0x75, 0, 0, 0, 0x38, 0, 0, 0, 0x6c, 0, 0, 0, 0x28, 0, 0, 0,
-    0x11, 0, 0, 0, 0x10, 0, 0, 0, 0, 0, 0, 0, 9, 0, 0, 0, 0x34, 0, 0, 0, 0, 0, 0, 0, 0, 0, 0, 0, 0,
-    0, 0, 0, 0, 0, 0, 0, 1, 0, 0, 0, 0, 0, 0, 0, 1, 0x63, 0x68, 0x6f, 0x73, 0x65, 0x6e, 0, 0, 0, 0,
-    0, 3, 0, 0, 0, 6, 0, 0, 0, 0, 0x71, 0x75, 0x69, 0x65, 0x74, 0, 0, 0, 0, 0, 0, 2, 0, 0, 0, 2, 0,
-    0, 0, 9, 0x62, 0x6f, 0x6f, 0x74, 0x61, 0x72, 0x67, 0x73, 0,
-];
 
 /// The first bytes of the empty root, one less than a header has.
 pub const SHORT: [u8; 39] = [
@@ -97,16 +81,15 @@ pub enum What {
 /// An item, its load address, and its size where it is stated.
 pub type Asked = (What, u64, Option<u64>);
 
-/// A launch of these items, and what becomes of it: the pages of its last item, or why it is refused.
-#[derive(Clone, Copy)]
-pub struct Case {
-    pub ram: &'static [Stretch],
-    pub items: &'static [Asked],
-    pub wanted: Result<u64, LayoutFault>,
-}
+/// A launch of these regions and items, and what becomes of it: the pages of its last item, or why it is refused.
+pub type Case = (
+    &'static [Stretch],
+    &'static [Asked],
+    Result<u64, LayoutFault>,
+);
 
 /// A devicetree, and whether it is to have the place of the initrd, and that of RAM.
-fn dtb(initrd: bool, memory: bool) -> ItemKind {
+pub fn dtb(initrd: bool, memory: bool) -> ItemKind {
     let edits = Edits {
         bootargs: None,
         initrd,
@@ -128,7 +111,7 @@ fn kind(what: What) -> ItemKind {
 }
 
 /// An item that is measured where its content is known, with numbers that a manifest can spell.
-fn item(rt: &impl Abort, kind: ItemKind, at: u64, size: Option<u64>) -> Item {
+pub fn item(rt: &impl Abort, kind: ItemKind, at: u64, size: Option<u64>) -> Item {
     let measured = kind.role() != Role::Unknown;
     Item::new(kind, at, size, measured).expect(rt, "numbers of an item")
 }
@@ -142,19 +125,28 @@ fn items(rt: &impl Abort, alloc: Global, asked: &[Asked]) -> Vec<Item> {
     items
 }
 
-const CONFIG: Config = Config {
-    algo: Algo::Sha256,
-    s2sz: 40,
-    sve: false,
-    pmu: false,
-    numbers: NO_NUMBERS,
-    rpv: [0; 64],
-    block_level: 2,
-    num_aux: 0,
-    rec_rule: None,
-    pool_base: 0x8_0000_0000,
-    pool_count: 16_777_216,
-};
+/// A configuration by its width of IPAs.
+macro_rules! config {
+    ($s2sz:expr) => {
+        ipa_layout::Config {
+            algo: rim_desc::Algo::Sha256,
+            s2sz: $s2sz,
+            sve: false,
+            pmu: false,
+            numbers: rim_desc::NO_NUMBERS,
+            rpv: [0; 64],
+            block_level: 2,
+            num_aux: 0,
+            rec_rule: None,
+            pool_base: 0x8_0000_0000,
+            pool_count: 16_777_216,
+        }
+    };
+}
+
+pub(crate) use config;
+
+const CONFIG: Config = config!(40);
 
 /// A REC that says nothing.
 pub const REC: Rec = Rec {
@@ -178,9 +170,8 @@ fn step_of(number: usize, regions: usize, items: usize) -> Step {
 fn steps(rt: &impl Abort, alloc: Global, regions: usize, items: usize) -> Vec<Step> {
     let mut steps = Vec::new(alloc);
     for number in 0..regions.saturating_add(items).saturating_add(2) {
-        steps
-            .push(step_of(number, regions, items))
-            .expect(rt, "memory");
+        let step = step_of(number, regions, items);
+        steps.push(step).expect(rt, "memory");
     }
     steps
 }
@@ -222,10 +213,8 @@ fn outcome(
     let launch = launch(rt, alloc, ram, items);
     assert!(rt; launch.has_files(files.len()));
     let outcome = place(alloc, &launch, files);
-    assert!(rt;
-        outcome.as_ref().err() != Some(&LayoutFault::NoMemory),
-        "memory"
-    );
+    let fault = outcome.as_ref().err();
+    assert!(rt; fault != Some(&LayoutFault::NoMemory), "memory");
     outcome
 }
 
@@ -239,17 +228,7 @@ fn last_pages(placed: &Placed) -> u64 {
 
 /// How many items are placed and how many pages the last one has, or the fault.
 fn pages_of(outcome: Result<Placed, LayoutFault>) -> Result<(usize, u64), LayoutFault> {
-    match outcome {
-        Ok(placed) => Ok((placed.items().len(), last_pages(&placed))),
-        Err(fault) => Err(fault),
-    }
-}
-
-fn wanted_of(case: &Case) -> Result<(usize, u64), LayoutFault> {
-    match case.wanted {
-        Ok(pages) => Ok((case.items.len(), pages)),
-        Err(fault) => Err(fault),
-    }
+    outcome.map(|placed| (placed.items().len(), last_pages(&placed)))
 }
 
 pub fn check_case(
@@ -260,9 +239,23 @@ pub fn check_case(
     name: &str,
     number: usize,
 ) {
-    let items = items(rt, alloc, case.items);
-    let found = pages_of(outcome(rt, alloc, case.ram, items, files));
-    assert!(rt; found == wanted_of(case), "{name}, case {number}");
+    let (ram, asked, wanted) = case;
+    let found = pages_of(outcome(rt, alloc, ram, items(rt, alloc, asked), files));
+    let wanted = wanted.map(|pages| (asked.len(), pages));
+    assert!(rt; found == wanted, "{name}, case {number}");
+}
+
+/// An item that is placed: its source, address, lead and pages, and whether it is measured.
+macro_rules! placed_item {
+    ($source:expr, $address:expr, $lead:expr, $pages:expr, $measured:expr) => {
+        PlacedItem {
+            source: $source,
+            address: $address,
+            lead: $lead,
+            pages: $pages,
+            measured: $measured,
+        }
+    };
 }
 
 /// What is placed: the files' contents, the items that are asked for, and those that are placed; and how many bytes the
@@ -273,38 +266,20 @@ const ROWS: [Row; 4] = [
     (
         &[&[1; 4097]],
         &[(What::Raw(0), 0x4000_0000, None)],
-        &[PlacedItem {
-            source: Some(Source::File(0)),
-            address: 0x4000_0000,
-            lead: 0,
-            pages: 2,
-            measured: true,
-        }],
+        &[placed_item!(Some(Source::File(0)), 0x4000_0000, 0, 2, true)],
         4097,
     ),
     (
         &[&[1; 4097]],
         &[(What::Raw(0), 0x4000_0004, None)],
-        &[PlacedItem {
-            source: Some(Source::File(0)),
-            address: 0x4000_0004,
-            lead: 4,
-            pages: 2,
-            measured: true,
-        }],
+        &[placed_item!(Some(Source::File(0)), 0x4000_0004, 4, 2, true)],
         4097,
     ),
     // Where its content is not known an item has no bytes, and is not measured.
     (
         &[],
         &[(What::Unknown, 0x4000_0004, Some(4097))],
-        &[PlacedItem {
-            source: None,
-            address: 0x4000_0004,
-            lead: 4,
-            pages: 2,
-            measured: false,
-        }],
+        &[placed_item!(None, 0x4000_0004, 4, 2, false)],
         0,
     ),
     // Empty items need nothing.
@@ -315,20 +290,8 @@ const ROWS: [Row; 4] = [
             (What::Raw(0), 0x7fff_ffff_ffff_ffff, None),
         ],
         &[
-            PlacedItem {
-                source: Some(Source::File(1)),
-                address: 0,
-                lead: 0,
-                pages: 0,
-                measured: true,
-            },
-            PlacedItem {
-                source: Some(Source::File(0)),
-                address: 0x7fff_ffff_ffff_ffff,
-                lead: 0xfff,
-                pages: 0,
-                measured: true,
-            },
+            placed_item!(Some(Source::File(1)), 0, 0, 0, true),
+            placed_item!(Some(Source::File(0)), 0x7fff_ffff_ffff_ffff, 0xfff, 0, true),
         ],
         0,
     ),
@@ -360,11 +323,7 @@ fn check_row(rt: &impl Abort, alloc: Global, row: &Row) {
     let placed = placed(rt, alloc, &SMALL, items(rt, alloc, asked), &files);
     check_items(rt, &placed, wanted);
     check(rt, placed.edited().is_none(), "no devicetree is changed");
-    check(
-        rt,
-        first_len(&placed, &files) == *len,
-        "the first item's bytes",
-    );
+    check(rt, first_len(&placed, &files) == *len, "the first's bytes");
 }
 
 #[test]
@@ -410,13 +369,7 @@ fn boot_values(rt: HostRuntime) {
     check(&rt, placed.recs() == BOOT_RECS.as_slice(), "RECs");
 }
 
-const EDITED: [PlacedItem; 1] = [PlacedItem {
-    source: Some(Source::Edited(3)),
-    address: 0x4000_0008,
-    lead: 8,
-    pages: 1,
-    measured: true,
-}];
+const EDITED: [PlacedItem; 1] = [placed_item!(Some(Source::Edited(3)), 0x4000_0008, 8, 1, true)];
 
 /// A devicetree whose command line is to be `quiet`.
 fn quiet(rt: &impl Abort, alloc: Global) -> Vec<Item> {
@@ -443,11 +396,8 @@ fn command_line(rt: HostRuntime) {
     let items = quiet(&rt, rt.alloc());
     let placed = placed(&rt, rt.alloc(), &SMALL, items, &files);
     check_items(&rt, &placed, &EDITED);
-    check(
-        &rt,
-        placed.edited() == Some(CHOSEN.as_slice()),
-        "the devicetree",
-    );
+    let is_chosen = placed.edited() == Some(CHOSEN.as_slice());
+    check(&rt, is_chosen, "the devicetree");
     check_bytes(&rt, &placed, &files, Source::Edited(3), &CHOSEN);
     check_bytes(&rt, &placed, &files, Source::Edited(4), &[]);
 }
@@ -481,10 +431,8 @@ const VALUES: [Value; 3] = [
 
 fn check_value(rt: &impl Abort, tree: &Tree, row: &Value) {
     let (path, name, value) = row;
-    assert!(rt;
-        tree.get(path, name) == Some(value),
-        "at {path:?}, {name:?}"
-    );
+    let found = tree.get(path, name);
+    assert!(rt; found == Some(value), "at {path:?}, {name:?}");
 }
 
 /// The changed devicetree.
