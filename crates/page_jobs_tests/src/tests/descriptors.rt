@@ -92,16 +92,10 @@ fn realms(rt: HostRuntime) {
     }
 }
 
-const GPRS: [u64; 8] = [
-    0x1122_3344_5566_7788,
-    0x1122_3344_5566_7789,
-    0x1122_3344_5566_778a,
-    0x1122_3344_5566_778b,
-    0x1122_3344_5566_778c,
-    0x1122_3344_5566_778d,
-    0x1122_3344_5566_778e,
-    0x1122_3344_5566_778f,
-];
+/// Numbers that follow one another.
+const X: u64 = 0x1122_3344_5566_7788;
+
+const GPRS: [u64; 8] = [X, X + 1, X + 2, X + 3, X + 4, X + 5, X + 6, X + 7];
 
 fn check_aux(rt: &impl Abort, params: &RecParams, count: u8) {
     let holds = params.num_aux() == count && params.aux().len() == usize::from(count);
@@ -111,11 +105,8 @@ fn check_aux(rt: &impl Abort, params: &RecParams, count: u8) {
 #[test]
 fn recs(rt: HostRuntime) {
     let params = RecParams::new(1, 0x101, 0x4008_0000, GPRS, &[0x1000, 0x2000]);
-    check_front(
-        &rt,
-        &hash(Algo::Sha256, &rec_page(&params)),
-        0x9b4b_d806_c48b_58b4,
-    );
+    let page = hash(Algo::Sha256, &rec_page(&params));
+    check_front(&rt, &page, 0x9b4b_d806_c48b_58b4);
     check_aux(&rt, &params, 2);
     check(&rt, params.mpidr() == 0x101, "the MPIDR");
     check_aux(&rt, &RecParams::new(0, 0, 0, [0; 8], &[9; 16]), 16);

@@ -62,37 +62,23 @@ fn pages_of_the_item(rt: HostRuntime) -> Result<(), Fail> {
     Ok(())
 }
 
-/// The bytes, a page, how many zeros are in front, and the bytes that are in it.
-type Small = (&'static [u8], Row, usize, &'static [u8]);
+/// The bytes, the lead and the number of a page, how many zeros are in front, and the bytes that are in it.
+type Small = (&'static [u8], u16, u64, usize, &'static [u8]);
 
 const SMALL: [Small; 6] = [
-    (
-        &[9, 8],
-        (Algo::Sha256, Source::File(0), 4095, 0),
-        4095,
-        &[9],
-    ),
-    (&[9, 8], (Algo::Sha256, Source::File(0), 4095, 1), 0, &[8]),
-    (&[9, 8], (Algo::Sha256, Source::File(0), 4095, 2), 0, &[]),
-    (
-        &[9, 8],
-        (Algo::Sha256, Source::File(0), 4095, 1_048_576),
-        0,
-        &[],
-    ),
-    (
-        &[9, 8],
-        (Algo::Sha256, Source::File(0), 4095, (1 << 52) - 1),
-        0,
-        &[],
-    ),
-    (&[], (Algo::Sha256, Source::File(0), 7, 0), 7, &[]),
+    (&[9, 8], 4095, 0, 4095, &[9]),
+    (&[9, 8], 4095, 1, 0, &[8]),
+    (&[9, 8], 4095, 2, 0, &[]),
+    (&[9, 8], 4095, 1_048_576, 0, &[]),
+    (&[9, 8], 4095, (1 << 52) - 1, 0, &[]),
+    (&[], 7, 0, 7, &[]),
 ];
 
 #[test]
 fn pages_past_the_bytes_are_zero(rt: HostRuntime) {
-    for (bytes, page, zeros, part) in &SMALL {
-        check_page(&rt, bytes, page, *zeros, part);
+    for (bytes, lead, number, zeros, part) in &SMALL {
+        let page = (Algo::Sha256, Source::File(0), *lead, *number);
+        check_page(&rt, bytes, &page, *zeros, part);
     }
 }
 
@@ -167,17 +153,8 @@ type Group = (Lanes, usize, [(Algo, u8); 9]);
 
 /// The pages 0 to 3 again and again.
 fn whole(algo: Algo) -> [(Algo, u8); 9] {
-    [
-        (algo, 0),
-        (algo, 1),
-        (algo, 2),
-        (algo, 3),
-        (algo, 0),
-        (algo, 1),
-        (algo, 2),
-        (algo, 3),
-        (algo, 0),
-    ]
+    let [a, b, c, d] = [(algo, 0), (algo, 1), (algo, 2), (algo, 3)];
+    [a, b, c, d, a, b, c, d, a]
 }
 
 /// The same, with another page in a place.
@@ -226,17 +203,7 @@ fn are_alone(digests: &GroupDigests, count: usize, pages: &[Page]) -> bool {
 /// A group's digests are those of its pages alone.
 fn check_group(rt: &impl Abort, bytes: &[u8], group: Group) {
     let (lanes, count, places) = group;
-    let pages = [
-        page_in(bytes, places[0]),
-        page_in(bytes, places[1]),
-        page_in(bytes, places[2]),
-        page_in(bytes, places[3]),
-        page_in(bytes, places[4]),
-        page_in(bytes, places[5]),
-        page_in(bytes, places[6]),
-        page_in(bytes, places[7]),
-        page_in(bytes, places[8]),
-    ];
+    let pages = places.map(|place| page_in(bytes, place));
     let digests = hash_group(&pages, lanes);
     assert!(rt; are_alone(&digests, count, &pages), "{group:?}");
     check_ahead(rt, &pages, lanes);

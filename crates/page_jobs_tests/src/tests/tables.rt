@@ -197,10 +197,8 @@ fn large_table(rt: HostRuntime) -> Result<(), Fail> {
 }
 
 fn check_row(rt: &impl Abort, row: &DigestRow, room: usize, digests: &[Measurement]) {
-    assert!(rt;
-        row.room() == room && row.digests() == digests,
-        "room for {room}"
-    );
+    let holds = row.room() == room && row.digests() == digests;
+    assert!(rt; holds, "room for {room}");
 }
 
 #[test]
@@ -221,10 +219,7 @@ fn rows_of_other_sizes(rt: HostRuntime) -> Result<(), Fail> {
     for room in [0, 100_000] {
         check_row(&rt, &DigestRow::reserve(rt.alloc(), room)?, room, &[]);
     }
-    check(
-        &rt,
-        DigestRow::reserve(rt.alloc(), usize::MAX).is_err(),
-        "too large",
-    );
+    let is_too_large = DigestRow::reserve(rt.alloc(), usize::MAX).is_err();
+    check(&rt, is_too_large, "too large");
     Ok(())
 }
