@@ -6,13 +6,13 @@ ghost use Rattle.page_jobs.specs.Page.{page_view};
 ghost use Rattle.page_jobs.specs.Table.{page_keys_of as page_keys};
 ghost use Rattle.launch_plan.specs.Links.{keys_of};
 
-use crate::has_all_keys;
+use crate::{REALM, has_all_keys, pages_link};
 use job_board::{BoardState, ChainedLaunch, PageTask, Run, Share, Work};
-use page_jobs::{Blob, Page, PageKey, Table};
+use page_jobs::{Blob, Page, Table};
 use page_jobs_tests::distinct_pages;
 use refusal::NoMemory;
-use rim_chain::{LaunchPlan, Link};
-use rim_desc::{Algo, NO_NUMBERS, RealmParams, Source};
+use rim_chain::LaunchPlan;
+use rim_desc::{Algo, Source};
 use std::alloc::Global;
 use std::marker::Brand;
 use std::process::Abort;
@@ -60,32 +60,11 @@ fn pages_of(alloc: Global, count: usize) -> Result<Vec<Page<'static>>, NoMemory>
     Ok(pages)
 }
 
-const REALM: RealmParams = RealmParams {
-    flags: 0,
-    s2sz: 33,
-    numbers: NO_NUMBERS,
-    rtt_level_start: 2,
-    rtt_num_start: 1,
-    algo: Algo::Sha256,
-    rpv: [0; 64],
-    rtt_base: 0,
-};
-
 /// The plan of a launch that measures the pages of these numbers.
 fn plan_of(alloc: Global, pages: &[usize]) -> Result<Option<LaunchPlan>, NoMemory> {
     let mut links = Vec::new(alloc);
     for number in pages {
-        let key = PageKey {
-            algo: Algo::Sha256,
-            source: Source::File(*number),
-            lead: 0,
-            number: 0,
-        };
-        links.push(Link::Pages {
-            ipa: 0x4000_0000,
-            key,
-            count: 1,
-        })?;
+        links.push(pages_link(0x4000_0000, *number, 1))?;
     }
     Ok(LaunchPlan::new(REALM, links))
 }
@@ -138,10 +117,8 @@ fn put_page<L: Run>(rt: &impl Abort, desk: &mut Desk<'_, L>, worker: usize, numb
     } else {
         0
     };
-    let share = desk
-        .shares
-        .get_mut(place)
-        .expect(rt, "worker 0 has a share");
+    let share = desk.shares.get_mut(place);
+    let share = share.expect(rt, "worker 0 has a share");
     let Some(task) = PageTask::new(desk.board.pages(), number) else {
         panic!(rt; "the page exists");
     };
@@ -178,10 +155,7 @@ fn put_launch<L: Run>(
 
 /// How many pages are counted in a worker's share.
 fn count_of<L: Run>(desk: &Desk<'_, L>, worker: usize) -> Option<u64> {
-    match desk.shares.get(worker) {
-        Some(share) => Some(share.count()),
-        None => None,
-    }
+    desk.shares.get(worker).map(|share| share.count())
 }
 
 /// Whether the answer is the one that is given.

@@ -64,9 +64,6 @@ fn the_first_fault_is_answered(rt: HostRuntime) {
     play(&rt, &mut core, &REFUSED);
     check(&rt, core.held(1) == Some(PAGE), "worker 1 holds the page");
     play(&rt, &mut core, &DONE);
-    check(
-        &rt,
-        core.state(PAGE) == Some(JobState::Done),
-        "the page is done",
-    );
+    let is_done = core.state(PAGE) == Some(JobState::Done);
+    check(&rt, is_done, "the page is done");
 }
