@@ -54,8 +54,14 @@ fn first_key(algo: Algo) -> PageKey {
     }
 }
 
-fn push(rt: &impl Abort, links: &mut Vec<Link>, link: Link) {
-    links.push(link).expect(rt, "memory");
+/// The plan of a launch with these links, where it may be.
+fn plan_with(
+    rt: &impl Abort,
+    alloc: Global,
+    realm: RealmParams,
+    links: &[Link],
+) -> Option<LaunchPlan> {
+    LaunchPlan::new(realm, Vec::from_slice(alloc, links).expect(rt, "memory"))
 }
 
 /// A plan of blocks from an address on, two measured pages, pages that are not measured, and a REC.
@@ -67,34 +73,23 @@ fn plan_of(
     unmeasured: u64,
     rec: &[u8],
 ) -> LaunchPlan {
-    let mut links = Vec::new(alloc);
     let (base, count) = blocks;
-    push(
-        rt,
-        &mut links,
+    let links = [
         Link::Blocks {
             base,
             size: 4096,
             count,
         },
-    );
-    push(rt, &mut links, measured(realm.algo));
-    push(
-        rt,
-        &mut links,
+        measured(realm.algo),
         Link::Unmeasured {
             ipa: 0x4010_0000,
             count: unmeasured,
         },
-    );
-    push(
-        rt,
-        &mut links,
         Link::Rec {
             content: hash(realm.algo, rec),
         },
-    );
-    LaunchPlan::new(realm, links).expect(rt, "the links fit")
+    ];
+    plan_with(rt, alloc, realm, &links).expect(rt, "the links fit")
 }
 
 /// The two measured pages.
@@ -114,11 +109,8 @@ fn plan(rt: &impl Abort, alloc: Global, algo: Algo) -> LaunchPlan {
 
 /// Puts a page's digest into its slot.
 fn put<'a>(rt: &impl Abort, table: &mut Table<'a>, slot: usize, page: Page<'a>) {
-    check(
-        rt,
-        table.fill(slot, PageJob::new(page).run()).is_ok(),
-        "its slot",
-    );
+    let is_kept = table.fill(slot, PageJob::new(page).run()).is_ok();
+    check(rt, is_kept, "its slot");
 }
 
 /// A row with the digests of the plan's pages.

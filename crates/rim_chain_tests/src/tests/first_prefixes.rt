@@ -69,11 +69,8 @@ fn check_prefix(
     prefix: &Option<Prefix>,
     has_prefix: bool,
 ) {
-    check(
-        rt,
-        prefix.is_some() == has_prefix,
-        "whether it has a prefix",
-    );
+    let is_known = prefix.is_some() == has_prefix;
+    check(rt, is_known, "whether it has a prefix");
     let row = filled_row(rt, alloc, plan, table);
     if let Some(prefix) = prefix {
         check(rt, prefix.links == 4, "four links");
@@ -96,11 +93,8 @@ fn check_prefixes(
     lanes: Lanes,
 ) {
     let prefixes = prefixes_of(rt, alloc, table, plans, lanes);
-    check(
-        rt,
-        prefixes.len() == LAUNCHES.len(),
-        "a prefix for each launch",
-    );
+    let are_as_many = prefixes.len() == LAUNCHES.len();
+    check(rt, are_as_many, "a prefix for each launch");
     for number in 0..LAUNCHES.len() {
         let plan = plans.get(number).expect(rt, "a plan");
         let prefix = prefixes.get(number).expect(rt, "a prefix");

@@ -40,11 +40,8 @@ fn check_side_by_side(rt: &impl Abort, alloc: Global, table: &Table, plans: &[La
     let lanes = Lanes::Four;
     let mut shared = SharedPrefixes::new(alloc, plans).expect(rt, "memory");
     let mut prefixes = first_prefixes(alloc, table, plans, &shared, lanes).expect(rt, "memory");
-    check(
-        rt,
-        prefixes.as_slice().iter().all(|prefix| prefix.is_none()),
-        "one launch alone begins at its realm",
-    );
+    let are_none = prefixes.as_slice().iter().all(|prefix| prefix.is_none());
+    check(rt, are_none, "one launch alone begins at its realm");
     let first = plans.get(0).expect(rt, "the first");
     let row = filled_row(rt, alloc, first, table);
     let value = chain_from(first, &row, 0, None, &mut shared);

@@ -1,5 +1,5 @@
 //! Plans: their pages and keys, and which may be.
-use super::{check, first_key, plan, push, realm};
+use super::{check, first_key, plan, plan_with, realm};
 use page_jobs::PageKey;
 use rim_chain::{LaunchPlan, Link};
 use rim_desc::Algo;
@@ -20,12 +20,8 @@ fn led(lead: u64) -> Link {
 
 /// Pages that are not measured before pages that are, twice.
 fn four_pages(rt: &impl Abort, alloc: Global) -> LaunchPlan {
-    let mut links = Vec::new(alloc);
-    push(rt, &mut links, NINE);
-    push(rt, &mut links, led(0));
-    push(rt, &mut links, NINE);
-    push(rt, &mut links, led(8));
-    LaunchPlan::new(realm(Algo::Sha512), links).expect(rt, "the links fit")
+    let links = [NINE, led(0), NINE, led(8)];
+    plan_with(rt, alloc, realm(Algo::Sha512), &links).expect(rt, "the links fit")
 }
 
 const NINE: Link = Link::Unmeasured { ipa: 0, count: 9 };
@@ -48,17 +44,11 @@ fn pages_have_keys_in_their_order(rt: HostRuntime) {
 #[test]
 fn plans_are_compared_by_what_they_hold(rt: HostRuntime) {
     let one = plan(&rt, rt.alloc(), Algo::Sha256);
-    check(
-        &rt,
-        one.is_same(&plan(&rt, rt.alloc(), Algo::Sha256)),
-        "the same",
-    );
-    check(
-        &rt,
-        !one.is_same(&plan(&rt, rt.alloc(), Algo::Sha512)),
-        "another algorithm",
-    );
-    let empty = LaunchPlan::new(realm(Algo::Sha256), Vec::new(rt.alloc()));
+    let is_same = one.is_same(&plan(&rt, rt.alloc(), Algo::Sha256));
+    check(&rt, is_same, "the same");
+    let is_other = !one.is_same(&plan(&rt, rt.alloc(), Algo::Sha512));
+    check(&rt, is_other, "another algorithm");
+    let empty = plan_with(&rt, rt.alloc(), realm(Algo::Sha256), &[]);
     let empty = empty.expect(&rt, "no links fit");
     check(&rt, !one.is_same(&empty), "no links");
     check(&rt, empty.pages() == 0, "no pages");
@@ -87,12 +77,8 @@ const TOO_FAR: [Link; 4] = [
 ];
 
 fn check_refused(rt: &impl Abort, alloc: Global, link: Link) {
-    let mut links = Vec::new(alloc);
-    push(rt, &mut links, link);
-    assert!(rt;
-        LaunchPlan::new(realm(Algo::Sha256), links).is_none(),
-        "{link:?}"
-    );
+    let made = plan_with(rt, alloc, realm(Algo::Sha256), &[link]);
+    assert!(rt; made.is_none(), "{link:?}");
 }
 
 #[test]
