@@ -52,8 +52,10 @@ pub enum LayerCall {
 #[derive(Clone, Copy)]
 pub enum ReleaseCall {
     MeasureAlone,
-    /// By three workers, whose gate lets launches wait or not.
-    MeasureRelease { lets_wait: bool },
+    /// By three workers, whose gate lets launches wait.
+    ByWorkers,
+    /// By three workers, whose gate lets no launch wait.
+    NoWaiting,
     JsonReport,
     Audit,
     AuditReport,
@@ -61,130 +63,60 @@ pub enum ReleaseCall {
     Trace,
     Devicetree,
     CheckLaunches,
-    /// The map of a launch, accepted or refused, as lines or as JSON.
-    Map { is_json: bool },
+    /// The map of a launch, accepted or refused, as lines.
+    MapText,
+    MapJson,
 }
 
-impl Call {
-    pub const ALL: [Call; 36] = [
-        Call::Tree(TreeCall::Read),
-        Call::Tree(TreeCall::Set),
-        Call::Tree(TreeCall::SetMemory),
-        Call::Tree(TreeCall::Write),
-        Call::Tree(TreeCall::ShowFdt),
-        Call::Tree(TreeCall::ShowImage),
-        Call::Text(TextCall::Command),
-        Call::Text(TextCall::Replay),
-        Call::Text(TextCall::Apply),
-        Call::Text(TextCall::CloneMonitor),
-        Call::Text(TextCall::PrintLines),
-        Call::Text(TextCall::ReadManifest),
-        Call::Text(TextCall::CheckManifest),
-        Call::Text(TextCall::MarkFirst),
-        Call::Text(TextCall::CheckJson),
-        Call::Layer(LayerCall::Place),
-        Call::Layer(LayerCall::List),
-        Call::Layer(LayerCall::ReadPlan),
-        Call::Layer(LayerCall::RipasRuns),
-        Call::Layer(LayerCall::DataPages),
-        Call::Layer(LayerCall::ReserveTable),
-        Call::Layer(LayerCall::ReserveRow),
-        Call::Layer(LayerCall::NewCore),
-        Call::Layer(LayerCall::NewBoard),
-        Call::Release(ReleaseCall::MeasureAlone),
-        Call::Release(ReleaseCall::MeasureRelease { lets_wait: true }),
-        Call::Release(ReleaseCall::MeasureRelease { lets_wait: false }),
-        Call::Release(ReleaseCall::JsonReport),
-        Call::Release(ReleaseCall::Audit),
-        Call::Release(ReleaseCall::AuditReport),
-        Call::Release(ReleaseCall::Listing),
-        Call::Release(ReleaseCall::Trace),
-        Call::Release(ReleaseCall::Devicetree),
-        Call::Release(ReleaseCall::CheckLaunches),
-        Call::Release(ReleaseCall::Map { is_json: false }),
-        Call::Release(ReleaseCall::Map { is_json: true }),
-    ];
+/// The calls, each after its name.
+pub const CALLS: [(&str, Call); 36] = [
+    ("fdt_tree::read", Call::Tree(TreeCall::Read)),
+    ("Tree::set", Call::Tree(TreeCall::Set)),
+    ("Tree::set_memory", Call::Tree(TreeCall::SetMemory)),
+    ("Tree::write", Call::Tree(TreeCall::Write)),
+    ("show_fdt", Call::Tree(TreeCall::ShowFdt)),
+    ("show_image", Call::Tree(TreeCall::ShowImage)),
+    ("command", Call::Text(TextCall::Command)),
+    ("replay", Call::Text(TextCall::Replay)),
+    ("Monitor::apply", Call::Text(TextCall::Apply)),
+    ("Monitor::try_clone", Call::Text(TextCall::CloneMonitor)),
+    ("print_line", Call::Text(TextCall::PrintLines)),
+    ("read_manifest", Call::Text(TextCall::ReadManifest)),
+    ("check_manifest", Call::Text(TextCall::CheckManifest)),
+    ("mark_first", Call::Text(TextCall::MarkFirst)),
+    ("check_json", Call::Text(TextCall::CheckJson)),
+    ("place", Call::Layer(LayerCall::Place)),
+    ("list", Call::Layer(LayerCall::List)),
+    ("LaunchPlan::read", Call::Layer(LayerCall::ReadPlan)),
+    ("Tables::ripas_runs", Call::Layer(LayerCall::RipasRuns)),
+    ("Tables::data_pages", Call::Layer(LayerCall::DataPages)),
+    ("Table::reserve", Call::Layer(LayerCall::ReserveTable)),
+    ("DigestRow::reserve", Call::Layer(LayerCall::ReserveRow)),
+    ("Core::new", Call::Layer(LayerCall::NewCore)),
+    ("BoardState::new", Call::Layer(LayerCall::NewBoard)),
+    ("measure_alone", Call::Release(ReleaseCall::MeasureAlone)),
+    ("measure_release", Call::Release(ReleaseCall::ByWorkers)),
+    (
+        "measure_release/no-waiting",
+        Call::Release(ReleaseCall::NoWaiting),
+    ),
+    ("json_report", Call::Release(ReleaseCall::JsonReport)),
+    ("audit", Call::Release(ReleaseCall::Audit)),
+    ("audit_report", Call::Release(ReleaseCall::AuditReport)),
+    ("listing", Call::Release(ReleaseCall::Listing)),
+    ("trace", Call::Release(ReleaseCall::Trace)),
+    ("placed_devicetree", Call::Release(ReleaseCall::Devicetree)),
+    ("check_launches", Call::Release(ReleaseCall::CheckLaunches)),
+    ("map_text", Call::Release(ReleaseCall::MapText)),
+    ("map_json", Call::Release(ReleaseCall::MapJson)),
+];
 
-    /// The call of this name.
-    pub fn named(name: &str) -> Option<Call> {
-        for call in &Call::ALL {
-            if call.name() == name {
-                return Some(*call);
-            }
-        }
-        None
-    }
-
-    pub fn name(&self) -> &'static str {
-        match self {
-            Call::Tree(call) => call.name(),
-            Call::Text(call) => call.name(),
-            Call::Layer(call) => call.name(),
-            Call::Release(call) => call.name(),
+/// The call of this name.
+pub fn named(name: &str) -> Option<Call> {
+    for (known, call) in &CALLS {
+        if *known == name {
+            return Some(*call);
         }
     }
-}
-
-impl TreeCall {
-    fn name(&self) -> &'static str {
-        match self {
-            TreeCall::Read => "fdt_tree::read",
-            TreeCall::Set => "Tree::set",
-            TreeCall::SetMemory => "Tree::set_memory",
-            TreeCall::Write => "Tree::write",
-            TreeCall::ShowFdt => "show_fdt",
-            TreeCall::ShowImage => "show_image",
-        }
-    }
-}
-
-impl TextCall {
-    fn name(&self) -> &'static str {
-        match self {
-            TextCall::Command => "command",
-            TextCall::Replay => "replay",
-            TextCall::Apply => "Monitor::apply",
-            TextCall::CloneMonitor => "Monitor::try_clone",
-            TextCall::PrintLines => "print_line",
-            TextCall::ReadManifest => "read_manifest",
-            TextCall::CheckManifest => "check_manifest",
-            TextCall::MarkFirst => "mark_first",
-            TextCall::CheckJson => "check_json",
-        }
-    }
-}
-
-impl LayerCall {
-    fn name(&self) -> &'static str {
-        match self {
-            LayerCall::Place => "place",
-            LayerCall::List => "list",
-            LayerCall::ReadPlan => "LaunchPlan::read",
-            LayerCall::RipasRuns => "Tables::ripas_runs",
-            LayerCall::DataPages => "Tables::data_pages",
-            LayerCall::ReserveTable => "Table::reserve",
-            LayerCall::ReserveRow => "DigestRow::reserve",
-            LayerCall::NewCore => "Core::new",
-            LayerCall::NewBoard => "BoardState::new",
-        }
-    }
-}
-
-impl ReleaseCall {
-    fn name(&self) -> &'static str {
-        match self {
-            ReleaseCall::MeasureAlone => "measure_alone",
-            ReleaseCall::MeasureRelease { lets_wait: true } => "measure_release",
-            ReleaseCall::MeasureRelease { lets_wait: false } => "measure_release/no-waiting",
-            ReleaseCall::JsonReport => "json_report",
-            ReleaseCall::Audit => "audit",
-            ReleaseCall::AuditReport => "audit_report",
-            ReleaseCall::Listing => "listing",
-            ReleaseCall::Trace => "trace",
-            ReleaseCall::Devicetree => "placed_devicetree",
-            ReleaseCall::CheckLaunches => "check_launches",
-            ReleaseCall::Map { is_json: false } => "map_text",
-            ReleaseCall::Map { is_json: true } => "map_json",
-        }
-    }
+    None
 }

@@ -1,17 +1,16 @@
 //! Calls of the layers, on the first launch of a manifest.
-ghost use Rattle.std.specs.Prelude.{◌≡◌, ◌<◌, IfOk, None, Ok, length, map, replicate, true, vec_len};
+ghost use Rattle.std.specs.Prelude.{◌≡◌, IfOk, None, length, map, replicate};
 ghost use Rattle.std.specs.List.{All, Contains};
 ghost use Rattle.job_core.specs.Jobs.{NeedsWithin};
 ghost use Rattle.page_jobs.specs.Key.{IsRising};
 ghost use Rattle.page_jobs.specs.Page.{page_view};
 ghost use Rattle.page_jobs.specs.Table.{page_keys_of};
 ghost use Rattle.launch_plan.specs.Links.{keys_of};
-ghost use Rattle.rim_launch.specs.LaunchData.{has_files};
-ghost use Rattle.rmi_list.specs.Listed.{HasPlace, listed as rmi_list_of};
+ghost use Rattle.rmi_list.specs.Listed.{HasPlace};
 
 use crate::calls::LayerCall;
 use crate::inputs::{files_of, split};
-use crate::trial::{Fault, Seen, begin, digest, end, seen};
+use crate::trial::{Fault, Seen, Trial, digest, made, tried};
 use ipa_layout::{LayoutFault, Placed, place};
 use job_board::{BoardState, Core, Run};
 use job_board_tests::has_all_keys;
@@ -30,29 +29,28 @@ use std::sync::ledger::Blank;
 
 /// What a call answers on the first launch of a manifest.
 pub fn seen<R: Print + AllocGlobal>(
-    rt: &R,
+    trial: &Trial<'_, R>,
     call: LayerCall,
     input: &[u8],
-    is_tried: bool,
 ) -> Result<Seen, Fault> {
     match call {
-        LayerCall::RipasRuns | LayerCall::DataPages => planned(rt, call, is_tried),
-        LayerCall::NewCore => core_made(rt, is_tried),
-        _ => of_manifest(rt, call, input, is_tried),
+        LayerCall::RipasRuns | LayerCall::DataPages => planned(trial, call),
+        LayerCall::NewCore => core_made(trial),
+        _ => of_manifest(trial, call, input),
     }
 }
 
 fn of_manifest<R: Print + AllocGlobal>(
-    rt: &R,
+    trial: &Trial<'_, R>,
     call: LayerCall,
     input: &[u8],
-    is_tried: bool,
 ) -> Result<Seen, Fault> {
+    let alloc = trial.rt.alloc();
     let (text, rest) = split(input);
-    let release = read_manifest(rt.alloc(), text).map_err(|_| Fault::Input)?;
-    let files = files_of(rt.alloc(), &release, rest)?;
+    let release = read_manifest(alloc, text).map_err(|_| Fault::Input)?;
+    let files = files_of(alloc, &release, rest)?;
     match release.all_launches().first() {
-        Some(named) => of_launch(rt, call, named.launch(), &files, is_tried),
+        Some(named) => of_launch(trial, call, named.launch(), &files),
         None => Err(Fault::Input),
     }
 }
@@ -90,14 +88,11 @@ fn levels(tables: &Tables) -> [u8; 4] {
 }
 
 /// A plan that goes on. Where memory is refused, walks end as before, and the same call then plans what it plans of new tables.
-fn planned<R: Print + AllocGlobal>(rt: &R, call: LayerCall, is_tried: bool) -> Result<Seen, Fault> {
-    let alloc = rt.alloc();
+fn planned<R: Print + AllocGlobal>(trial: &Trial<'_, R>, call: LayerCall) -> Result<Seen, Fault> {
+    let alloc = trial.rt.alloc();
     let mut tables = tables_for(alloc, call)?;
     let before = levels(&tables);
-    begin(rt, is_tried)?;
-    let answer = plan(&mut tables, call);
-    end(rt, is_tried)?;
-    match answer {
+    match made!(trial, plan(&mut tables, call)) {
         Ok(acts) => Ok(Some(acts_digest(alloc, &acts)?)),
         Err(PlanFault::NoMemory) if levels(&tables) == before => {
             planned_again(alloc, call, &mut tables)
@@ -130,13 +125,10 @@ fn needs(alloc: Global) -> Result<Vec<Vec<usize>>, AllocError>
 }
 
 /// A core of three workers, two pages and two launches. What it is given is gone where memory is refused.
-fn core_made<R: Print + AllocGlobal>(rt: &R, is_tried: bool) -> Result<Seen, Fault> {
-    let alloc = rt.alloc();
+fn core_made<R: Print + AllocGlobal>(trial: &Trial<'_, R>) -> Result<Seen, Fault> {
+    let alloc = trial.rt.alloc();
     let needs = needs(alloc)?;
-    begin(rt, is_tried)?;
-    let answer = Core::new(alloc, 3, 2, needs);
-    end(rt, is_tried)?;
-    Ok(seen!(alloc, answer, core_digest, NoMemory))
+    tried!(trial, Core::new(alloc, 3, 2, needs) => core_digest, NoMemory)
 }
 
 fn core_digest(alloc: Global, core: &Core) -> Result<u64, AllocError> {
@@ -146,60 +138,31 @@ fn core_digest(alloc: Global, core: &Core) -> Result<u64, AllocError> {
 
 /// Calls on a launch and its files.
 fn of_launch<R: Print + AllocGlobal>(
-    rt: &R,
+    trial: &Trial<'_, R>,
     call: LayerCall,
     launch: &Launch,
     files: &Files,
-    is_tried: bool,
 ) -> Result<Seen, Fault> {
+    let alloc = trial.rt.alloc();
     if !launch.has_files(files.len()) {
         return Err(Fault::Input);
     }
     if let LayerCall::Place = call {
-        return placed(rt, launch, files, is_tried);
+        return tried!(trial, place(alloc, launch, files) => place_digest, LayoutFault::NoMemory);
     }
-    let Ok(placed) = place(rt.alloc(), launch, files) else {
+    let Ok(placed) = place(alloc, launch, files) else {
         return Err(Fault::Input);
     };
     match call {
-        LayerCall::List => listed(rt, launch, &placed, is_tried),
-        _ => of_list(rt, call, launch, &placed, files, is_tried),
+        LayerCall::List =>
+            tried!(trial, list(alloc, launch, &placed) => list_digest, ListFault::NoMemory),
+        _ => of_list(trial, call, launch, &placed, files),
     }
-}
-
-fn placed<R: Print + AllocGlobal>(
-    rt: &R,
-    launch: &Launch,
-    files: &Files,
-    is_tried: bool,
-) -> Result<Seen, Fault>
-    requires { has_files launch.now (vec_len files.now) ≡ true }
-{
-    let alloc = rt.alloc();
-    begin(rt, is_tried)?;
-    let answer = place(alloc, launch, files);
-    end(rt, is_tried)?;
-    Ok(seen!(alloc, answer, place_digest, LayoutFault::NoMemory))
 }
 
 fn place_digest(alloc: Global, placed: &Placed) -> Result<u64, AllocError> {
     let (items, recs, edited) = (placed.items(), placed.recs(), placed.edited());
     Ok(digest(format!(in alloc; "{items:?} {recs:?} {edited:?}")?.as_bytes()))
-}
-
-fn listed<R: Print + AllocGlobal>(
-    rt: &R,
-    launch: &Launch,
-    placed: &Placed,
-    is_tried: bool,
-) -> Result<Seen, Fault>
-    requires { HasPlace launch.now placed.now }
-{
-    let alloc = rt.alloc();
-    begin(rt, is_tried)?;
-    let answer = list(alloc, launch, placed);
-    end(rt, is_tried)?;
-    Ok(seen!(alloc, answer, list_digest, ListFault::NoMemory))
 }
 
 /// A digest of all commands, each measured page with zeros for its contents.
@@ -215,41 +178,24 @@ fn list_digest(alloc: Global, list: &Plan) -> Result<u64, AllocError> {
 
 /// Calls on a launch that has its list.
 fn of_list<R: Print + AllocGlobal>(
-    rt: &R,
+    trial: &Trial<'_, R>,
     call: LayerCall,
     launch: &Launch,
     placed: &Placed,
     files: &Files,
-    is_tried: bool,
 ) -> Result<Seen, Fault>
     requires { HasPlace launch.now placed.now }
 {
-    let alloc = rt.alloc();
+    let (alloc, algo) = (trial.rt.alloc(), launch.config().algo);
     let Ok(list) = list(alloc, launch, placed) else {
         return Err(Fault::Input);
     };
+    let read = || LaunchPlan::read(alloc, algo, launch, placed, &list);
     if let LayerCall::ReadPlan = call {
-        return plan_read(rt, launch, placed, &list, is_tried);
+        return tried!(trial, read() => plan_digest, NoMemory);
     }
-    let plan = LaunchPlan::read(alloc, launch.config().algo, launch, placed, &list)?;
-    of_plan(rt, call, plan, placed, files, is_tried)
-}
-
-fn plan_read<R: Print + AllocGlobal>(
-    rt: &R,
-    launch: &Launch,
-    placed: &Placed,
-    list: &Plan,
-    is_tried: bool,
-) -> Result<Seen, Fault>
-    requires { rmi_list_of launch.now placed.now ≡ Ok list.now }
-{
-    let algo = launch.config().algo;
-    let alloc = rt.alloc();
-    begin(rt, is_tried)?;
-    let answer = LaunchPlan::read(alloc, algo, launch, placed, list);
-    end(rt, is_tried)?;
-    Ok(seen!(alloc, answer, plan_digest, NoMemory))
+    let plan = read()?;
+    of_plan(trial, call, plan, placed, files)
 }
 
 fn plan_digest(alloc: Global, plan: &LaunchPlan) -> Result<u64, AllocError> {
@@ -259,44 +205,26 @@ fn plan_digest(alloc: Global, plan: &LaunchPlan) -> Result<u64, AllocError> {
 
 /// Calls on a launch that has its plan.
 fn of_plan<R: Print + AllocGlobal>(
-    rt: &R,
+    trial: &Trial<'_, R>,
     call: LayerCall,
     plan: LaunchPlan,
     placed: &Placed,
     files: &Files,
-    is_tried: bool,
 ) -> Result<Seen, Fault> {
+    let alloc = trial.rt.alloc();
     if let LayerCall::ReserveRow = call {
-        return row_made(rt, plan.pages(), is_tried);
+        return tried!(trial, DigestRow::reserve(alloc, plan.pages()) => room, NoMemory);
     }
-    let pages = pages_of(rt.alloc(), &plan, placed, files)?;
+    let pages = pages_of(alloc, &plan, placed, files)?;
     if let LayerCall::ReserveTable = call {
-        return table_made(rt, &pages, is_tried);
+        return tried!(trial, Table::reserve(alloc, &pages) => slots, NoMemory);
     }
-    let plans = Vec::from_array(rt.alloc(), [plan])?;
-    board_made(rt, &pages, &plans, is_tried)
-}
-
-fn row_made<R: Print + AllocGlobal>(rt: &R, pages: usize, is_tried: bool) -> Result<Seen, Fault> {
-    let alloc = rt.alloc();
-    begin(rt, is_tried)?;
-    let answer = DigestRow::reserve(alloc, pages);
-    end(rt, is_tried)?;
-    Ok(seen!(alloc, answer, room, NoMemory))
+    let plans = Vec::from_array(alloc, [plan])?;
+    board_made(trial, &pages, &plans)
 }
 
 fn room(_alloc: Global, row: &DigestRow) -> Result<u64, AllocError> {
     Ok(row.room() as u64)
-}
-
-fn table_made<R: Print + AllocGlobal>(rt: &R, pages: &[Page], is_tried: bool) -> Result<Seen, Fault>
-    requires { IsRising (page_keys_of (map page_view pages.now)) }
-{
-    let alloc = rt.alloc();
-    begin(rt, is_tried)?;
-    let answer = Table::reserve(alloc, pages);
-    end(rt, is_tried)?;
-    Ok(seen!(alloc, answer, slots, NoMemory))
 }
 
 fn slots(_alloc: Global, table: &Table) -> Result<u64, AllocError> {
@@ -327,26 +255,24 @@ fn pages_of<'a>(
 
 /// A board of three workers. What it is given is gone where memory is refused.
 fn board_made<R: Print + AllocGlobal>(
-    rt: &R,
+    trial: &Trial<'_, R>,
     pages: &[Page],
     plans: &[LaunchPlan],
-    is_tried: bool,
 ) -> Result<Seen, Fault>
     requires { IsRising (page_keys_of (map page_view pages.now)) }
 {
-    let table = Table::reserve(rt.alloc(), pages)?;
+    let table = Table::reserve(trial.rt.alloc(), pages)?;
     if !has_all_keys(&table, plans) {
         return Err(Fault::Input);
     }
-    board_of::<Brand, R>(rt, Blank::new(3), table, plans, is_tried)
+    board_of::<Brand, R>(trial, Blank::new(3), table, plans)
 }
 
 fn board_of<'a, L: Run, R: Print + AllocGlobal>(
-    rt: &R,
+    trial: &Trial<'_, R>,
     blank: Blank,
     table: Table<'a>,
     plans: &'a [LaunchPlan],
-    is_tried: bool,
 ) -> Result<Seen, Fault>
     requires name { blank.name ≡ L.name }
     requires parts { (blank.parts ≡ L.parts) × (blank.parts ≡ 3) }
@@ -356,10 +282,8 @@ fn board_of<'a, L: Run, R: Print + AllocGlobal>(
     requires keys { All (λ p. All (Contains (page_keys_of table.pages)) (keys_of p.links))
         plans.now }
 {
-    begin(rt, is_tried)?;
-    let made = BoardState::<L>::new(rt.alloc(), blank, 3, table, plans);
-    end(rt, is_tried)?;
-    match made {
+    let alloc = trial.rt.alloc();
+    match made!(trial, BoardState::<L>::new(alloc, blank, 3, table, plans)) {
         Ok((_board, shares)) => Ok(Some(shares.len() as u64)),
         Err(NoMemory) => Ok(None),
     }

@@ -1,6 +1,6 @@
 //! Calls on the commands of a listing: each is given to a monitor, and each is printed.
 
-use crate::trial::{Fault, Seen, begin, digest, end, seen};
+use crate::trial::{Fault, Seen, Trial, digest, made, tried};
 use refusal::NoMemory;
 use rim_desc::Command;
 use rmi_line::{print_line, read_first, read_line};
@@ -43,16 +43,13 @@ fn state(alloc: Global, monitor: &Monitor, commands: &[Command]) -> Result<u64, 
 
 /// Each command in its turn. Where memory is refused for one of them, the monitor answers as one that took those before it, and
 /// then takes it and the others.
-pub fn applied<R: Print + AllocGlobal>(rt: &R, text: &[u8], is_tried: bool) -> Result<Seen, Fault> {
-    let alloc = rt.alloc();
+pub fn applied<R: Print + AllocGlobal>(trial: &Trial<'_, R>, text: &[u8]) -> Result<Seen, Fault> {
+    let alloc = trial.rt.alloc();
     let Listing {
         mut monitor,
         commands,
     } = listed(alloc, text)?;
-    begin(rt, is_tried)?;
-    let refused = first_refused(&mut monitor, &commands);
-    end(rt, is_tried)?;
-    match refused {
+    match made!(trial, first_refused(&mut monitor, &commands)) {
         None => Ok(Some(state(alloc, &monitor, &commands)?)),
         Some(number) => after_refusal(alloc, text, monitor, number),
     }
@@ -107,27 +104,15 @@ fn first_refused(monitor: &mut Monitor, commands: &[Command]) -> Option<usize> {
 }
 
 /// A copy of the monitor that has taken all commands.
-pub fn cloned<R: Print + AllocGlobal>(rt: &R, text: &[u8], is_tried: bool) -> Result<Seen, Fault> {
+pub fn cloned<R: Print + AllocGlobal>(trial: &Trial<'_, R>, text: &[u8]) -> Result<Seen, Fault> {
     let Listing {
         mut monitor,
         commands,
-    } = listed(rt.alloc(), text)?;
+    } = listed(trial.rt.alloc(), text)?;
     if first_refused(&mut monitor, &commands).is_some() {
         return Err(Fault::Input);
     }
-    copied(rt, &monitor, is_tried)
-}
-
-fn copied<R: Print + AllocGlobal>(
-    rt: &R,
-    monitor: &Monitor,
-    is_tried: bool,
-) -> Result<Seen, Fault> {
-    let alloc = rt.alloc();
-    begin(rt, is_tried)?;
-    let answer = monitor.try_clone();
-    end(rt, is_tried)?;
-    Ok(seen!(alloc, answer, copy_digest, NoMemory))
+    tried!(trial, monitor.try_clone() => copy_digest, NoMemory)
 }
 
 fn copy_digest(alloc: Global, monitor: &Monitor) -> Result<u64, AllocError> {
@@ -135,13 +120,10 @@ fn copy_digest(alloc: Global, monitor: &Monitor) -> Result<u64, AllocError> {
 }
 
 /// The lines of all commands.
-pub fn printed<R: Print + AllocGlobal>(rt: &R, text: &[u8], is_tried: bool) -> Result<Seen, Fault> {
-    let alloc = rt.alloc();
+pub fn printed<R: Print + AllocGlobal>(trial: &Trial<'_, R>, text: &[u8]) -> Result<Seen, Fault> {
+    let alloc = trial.rt.alloc();
     let commands = listed(alloc, text)?.commands;
-    begin(rt, is_tried)?;
-    let answer = lines(alloc, &commands);
-    end(rt, is_tried)?;
-    Ok(answer.ok())
+    Ok(made!(trial, lines(alloc, &commands)).ok())
 }
 
 /// A digest of the lines, each of which is dropped before the next is printed.

@@ -8,14 +8,13 @@ mod calls;
 mod inputs;
 mod layers;
 mod machine;
-mod maps;
 mod releases;
 mod texts;
 mod trees;
 mod trial;
 
-use crate::calls::Call;
-use crate::trial::{Fault, Seen, word};
+use crate::calls::{CALLS, Call, named};
+use crate::trial::{Fault, Seen, Trial, word};
 use std::io::Read;
 use std::process::ExitCode;
 use std::sync::Wait;
@@ -48,7 +47,7 @@ fn make_asked(rt: &HostRuntime) -> Result<Option<Asked>, Fault> {
     let Some(word) = words.get(1) else {
         return Ok(None);
     };
-    let Some(call) = Call::named(word.as_str()) else {
+    let Some(call) = named(word.as_str()) else {
         return Err(Fault::Input);
     };
     let mut input = Vec::new(rt.alloc());
@@ -61,9 +60,9 @@ fn said<R: Threads + Wait + Sync + Print + AllocGlobal>(
     rt: &R,
     asked: &Asked,
 ) -> Result<(), Fault> {
-    let wanted = seen_of(rt, asked, false)?;
-    let tried = seen_of(rt, asked, true)?;
-    let again = seen_of(rt, asked, false)?;
+    let wanted = seen_of(rt, false, asked)?;
+    let tried = seen_of(rt, true, asked)?;
+    let again = seen_of(rt, false, asked)?;
     let word = word(wanted, tried, again);
     println!(rt; "{word}")?;
     Ok(())
@@ -71,8 +70,7 @@ fn said<R: Threads + Wait + Sync + Print + AllocGlobal>(
 
 /// The names of all calls, one a line.
 fn names<R: Print>(rt: &R) -> Result<(), Fault> {
-    for call in &Call::ALL {
-        let name = call.name();
+    for (name, _call) in &CALLS {
         println!(rt; "{name}")?;
     }
     Ok(())
@@ -81,14 +79,15 @@ fn names<R: Print>(rt: &R) -> Result<(), Fault> {
 /// What a call answers.
 fn seen_of<R: Threads + Wait + Sync + Print + AllocGlobal>(
     rt: &R,
-    asked: &Asked,
     is_tried: bool,
+    asked: &Asked,
 ) -> Result<Seen, Fault> {
+    let trial = &Trial { rt, is_tried };
     let input = asked.input.as_slice();
     match asked.call {
-        Call::Tree(call) => trees::seen(rt, call, input, is_tried),
-        Call::Text(call) => texts::seen(rt, call, input, is_tried),
-        Call::Layer(call) => layers::seen(rt, call, input, is_tried),
-        Call::Release(call) => releases::seen(rt, call, input, is_tried),
+        Call::Tree(call) => trees::seen(trial, call, input),
+        Call::Text(call) => texts::seen(trial, call, input),
+        Call::Layer(call) => layers::seen(trial, call, input),
+        Call::Release(call) => releases::seen(trial, call, input),
     }
 }

@@ -3,11 +3,12 @@ ghost use Rattle.std.specs.Prelude.{◌≡◌, ◌<◌, length, vec_len};
 
 use crate::calls::ReleaseCall;
 use crate::inputs::{files_of, split};
-use crate::maps;
-use crate::trial::{Fault, Seen, begin, digest, end, remarks_digest, seen, text_digest};
+use crate::trial::{Fault, Seen, Trial, digest, made, remarks_digest, text_digest, tried};
 use refusal::NoMemory;
+use rim_accepted::accept_with_list;
 use rim_check::{LaunchCheck, check_launches};
 use rim_desc::{Lanes, Measurement};
+use rim_map::{RefusedLaunch, map_json, map_text, refused_json, refused_text};
 use rim_release::{
     AuditFault, Files, Gate, JobId, LoadedLaunch, LoadedRelease, Outcome, Release, Report,
     StartFault, audit, audit_report, json_report, listing, measure_alone, measure_release,
@@ -20,178 +21,106 @@ use std::thread::Threads;
 
 /// What a call answers on the release of a manifest, and where it is about one launch, on the first.
 pub fn seen<R: Threads + Wait + Sync + Print + AllocGlobal>(
-    rt: &R,
+    trial: &Trial<'_, R>,
     call: ReleaseCall,
     input: &[u8],
-    is_tried: bool,
 ) -> Result<Seen, Fault> {
+    let alloc = trial.rt.alloc();
     let (text, rest) = split(input);
-    let release = read_manifest(rt.alloc(), text).map_err(|_| Fault::Input)?;
-    let files = files_of(rt.alloc(), &release, rest)?;
+    let release = read_manifest(alloc, text).map_err(|_| Fault::Input)?;
+    let files = files_of(alloc, &release, rest)?;
+    let loaded = LoadedRelease::new(&release, &files);
     match call {
-        ReleaseCall::MeasureRelease { lets_wait } => by_workers(
-            rt, &release, &files, lets_wait, is_tried,
-        ),
-        ReleaseCall::JsonReport => as_json(rt, &release, &files, is_tried),
-        ReleaseCall::CheckLaunches => {
-            launches_checked(rt, LoadedRelease::new(&release, &files), is_tried)
+        ReleaseCall::MeasureAlone => {
+            let (release, files) = (&release, &files);
+            tried!(trial, measure_alone(alloc, release, files) => text_digest, StartFault::NoMemory)
         }
-        ReleaseCall::Map { is_json } => maps::seen(
-            rt,
-            LoadedRelease::new(&release, &files),
-            is_json,
-            is_tried,
-        ),
-        ReleaseCall::MeasureAlone => alone(rt, &release, &files, is_tried),
-        ReleaseCall::AuditReport => all_audited(rt, &release, &files, is_tried),
-        _ => first_launch(rt, call, &release, &files, is_tried),
+        ReleaseCall::ByWorkers => by_workers(trial, &release, &files, true),
+        ReleaseCall::NoWaiting => by_workers(trial, &release, &files, false),
+        ReleaseCall::JsonReport => as_json(trial, &release, &files),
+        ReleaseCall::AuditReport =>
+            tried!(trial, audit_report(alloc, &release, &files) => text_digest, NoMemory),
+        ReleaseCall::CheckLaunches =>
+            tried!(trial, check_launches(alloc, loaded, false) => check_digest, NoMemory),
+        _ => first_launch(trial, call, &release, &files),
     }
 }
 
-fn alone<R: Print + AllocGlobal>(
-    rt: &R,
-    release: &Release,
-    files: &Files,
-    is_tried: bool,
-) -> Result<Seen, Fault>
-    requires { vec_len files.now ≡ length release.now.paths }
-{
-    let alloc = rt.alloc();
-    begin(rt, is_tried)?;
-    let answer = measure_alone(alloc, release, files);
-    end(rt, is_tried)?;
-    Ok(seen!(alloc, answer, text_digest, StartFault::NoMemory))
-}
-
-fn all_audited<R: Print + AllocGlobal>(
-    rt: &R,
-    release: &Release,
-    files: &Files,
-    is_tried: bool,
-) -> Result<Seen, Fault>
-    requires { vec_len files.now ≡ length release.now.paths }
-{
-    let alloc = rt.alloc();
-    begin(rt, is_tried)?;
-    let answer = audit_report(alloc, release, files);
-    end(rt, is_tried)?;
-    Ok(seen!(alloc, answer, text_digest, NoMemory))
-}
-
 fn first_launch<R: Print + AllocGlobal>(
-    rt: &R,
+    trial: &Trial<'_, R>,
     call: ReleaseCall,
     release: &Release,
     files: &Files,
-    is_tried: bool,
 ) -> Result<Seen, Fault>
     requires { vec_len files.now ≡ length release.now.paths }
 {
     if release.launches() == 0 {
         return Err(Fault::Input);
     }
+    let alloc = trial.rt.alloc();
+    let first = LoadedRelease::new(release, files).launch(0);
     match call {
-        ReleaseCall::Audit => audited(rt, release, files, is_tried),
-        ReleaseCall::Listing => listed(rt, release, files, is_tried),
-        ReleaseCall::Trace => { traced(rt, LoadedRelease::new(release, files).launch(0), is_tried) }
-        _ => devicetree(rt, LoadedRelease::new(release, files).launch(0), is_tried),
+        ReleaseCall::Audit =>
+            tried!(trial, audit(alloc, release, files, 0) => value_digest, AuditFault::NoMemory),
+        ReleaseCall::Listing =>
+            tried!(trial, listing(alloc, release, files, 0) => text_digest, AuditFault::NoMemory),
+        ReleaseCall::Trace =>
+            tried!(trial, trace_or_refusal(alloc, Lanes::Four, first) => report_digest, NoMemory),
+        ReleaseCall::MapText => mapped(trial, release, first, false),
+        ReleaseCall::MapJson => mapped(trial, release, first, true),
+        _ => tried!(trial, placed_devicetree(alloc, first) => bytes_digest, AuditFault::NoMemory),
     }
 }
 
-fn audited<R: Print + AllocGlobal>(
-    rt: &R,
+/// The map of a launch, accepted or refused.
+fn mapped<R: Print + AllocGlobal>(
+    trial: &Trial<'_, R>,
     release: &Release,
-    files: &Files,
-    is_tried: bool,
-) -> Result<Seen, Fault>
-    requires { (vec_len files.now ≡ length release.now.paths) × (0 < length release.now.launches) }
-{
-    let alloc = rt.alloc();
-    begin(rt, is_tried)?;
-    let answer = audit(alloc, release, files, 0);
-    end(rt, is_tried)?;
-    Ok(seen!(alloc, answer, value_digest, AuditFault::NoMemory))
-}
-
-fn listed<R: Print + AllocGlobal>(
-    rt: &R,
-    release: &Release,
-    files: &Files,
-    is_tried: bool,
-) -> Result<Seen, Fault>
-    requires { (vec_len files.now ≡ length release.now.paths) × (0 < length release.now.launches) }
-{
-    let alloc = rt.alloc();
-    begin(rt, is_tried)?;
-    let answer = listing(alloc, release, files, 0);
-    end(rt, is_tried)?;
-    Ok(seen!(alloc, answer, text_digest, AuditFault::NoMemory))
-}
-
-fn traced<R: Print + AllocGlobal>(
-    rt: &R,
-    loaded: LoadedLaunch<'_>,
-    is_tried: bool,
+    launch: LoadedLaunch<'_>,
+    is_json: bool,
 ) -> Result<Seen, Fault> {
-    let alloc = rt.alloc();
-    begin(rt, is_tried)?;
-    let answer = trace_or_refusal(alloc, Lanes::Four, loaded);
-    end(rt, is_tried)?;
-    Ok(seen!(alloc, answer, report_digest, NoMemory))
-}
-
-fn devicetree<R: Print + AllocGlobal>(
-    rt: &R,
-    loaded: LoadedLaunch<'_>,
-    is_tried: bool,
-) -> Result<Seen, Fault> {
-    let alloc = rt.alloc();
-    begin(rt, is_tried)?;
-    let answer = placed_devicetree(alloc, loaded);
-    end(rt, is_tried)?;
-    Ok(seen!(alloc, answer, devicetree_digest, AuditFault::NoMemory))
+    let alloc = trial.rt.alloc();
+    match accept_with_list(alloc, launch) {
+        Ok(Ok(listed)) => {
+            if is_json {
+                tried!(trial, map_json(alloc, release, &listed) => text_digest, NoMemory)
+            } else {
+                tried!(trial, map_text(alloc, release, &listed) => text_digest, NoMemory)
+            }
+        }
+        Ok(Err(reason)) => {
+            let refused = RefusedLaunch {
+                launch: launch.launch,
+                files: launch.files,
+                reason: &reason,
+                line: b"refused\n",
+            };
+            if is_json {
+                tried!(trial, refused_json(alloc, release, &refused) => text_digest, NoMemory)
+            } else {
+                tried!(trial, refused_text(alloc, release, &refused) => text_digest, NoMemory)
+            }
+        }
+        Err(_) => Err(Fault::Input),
+    }
 }
 
 /// The report in JSON of a run that one worker has made.
 fn as_json<R: Threads + Wait + Sync + Print + AllocGlobal>(
-    rt: &R,
+    trial: &Trial<'_, R>,
     release: &Release,
     files: &Files,
-    is_tried: bool,
 ) -> Result<Seen, Fault>
     requires { vec_len files.now ≡ length release.now.paths }
 {
+    let alloc = trial.rt.alloc();
     let gate = &mut Counting::new(true);
-    let Ok(outcome) = measure_release(rt, rt.alloc(), gate, release, files, 1) else {
+    let Ok(outcome) = measure_release(trial.rt, alloc, gate, release, files, 1) else {
         return Err(Fault::Input);
     };
-    json_made(rt, LoadedRelease::new(release, files), &outcome, is_tried)
-}
-
-fn json_made<R: Print + AllocGlobal>(
-    rt: &R,
-    loaded: LoadedRelease<'_>,
-    outcome: &Outcome,
-    is_tried: bool,
-) -> Result<Seen, Fault> {
-    let alloc = rt.alloc();
-    begin(rt, is_tried)?;
-    let launches = outcome.launches.as_slice();
-    let answer = json_report(alloc, "rim", loaded, launches, outcome.pages);
-    end(rt, is_tried)?;
-    Ok(seen!(alloc, answer, text_digest, NoMemory))
-}
-
-fn launches_checked<R: Print + AllocGlobal>(
-    rt: &R,
-    loaded: LoadedRelease<'_>,
-    is_tried: bool,
-) -> Result<Seen, Fault> {
-    let alloc = rt.alloc();
-    begin(rt, is_tried)?;
-    let answer = check_launches(alloc, loaded, false);
-    end(rt, is_tried)?;
-    Ok(seen!(alloc, answer, check_digest, NoMemory))
+    let loaded = LoadedRelease::new(release, files);
+    let (launches, pages) = (outcome.launches.as_slice(), outcome.pages);
+    tried!(trial, json_report(alloc, "rim", loaded, launches, pages) => text_digest, NoMemory)
 }
 
 /// Counts the calls around jobs.
@@ -234,53 +163,40 @@ const WORKERS: usize = 3;
 /// A run of three workers. Where memory is refused no job was begun. How many workers were started is said, where it is the run that
 /// is tried; the report and the pages are those of all workers.
 fn by_workers<R: Threads + Wait + Sync + Print + AllocGlobal>(
-    rt: &R,
+    trial: &Trial<'_, R>,
     release: &Release,
     files: &Files,
     lets_wait: bool,
-    is_tried: bool,
 ) -> Result<Seen, Fault>
     requires { vec_len files.now ≡ length release.now.paths }
 {
+    let (rt, alloc) = (trial.rt, trial.rt.alloc());
     let mut gate = Counting::new(lets_wait);
-    begin(rt, is_tried)?;
-    let outcome = measure_release(rt, rt.alloc(), &mut gate, release, files, WORKERS);
-    end(rt, is_tried)?;
-    if outcome.is_err() && gate.calls() > 0 {
-        return Err(Fault::Changed);
-    }
-    say_started(rt, &outcome, is_tried)?;
-    outcome_digest(&outcome)
-}
-
-fn say_started<R: Print>(
-    rt: &R,
-    outcome: &Result<Outcome, StartFault>,
-    is_tried: bool,
-) -> Result<(), Fault> {
-    if let (Ok(outcome), true) = (outcome, is_tried) {
-        let started = outcome.started;
-        println!(rt; "{started} started")?;
-    }
-    Ok(())
-}
-
-/// A digest of a report and of the pages, where the shares add up to them.
-fn outcome_digest(outcome: &Result<Outcome, StartFault>) -> Result<Seen, Fault> {
-    match outcome {
+    match made!(
+        trial,
+        measure_release(rt, alloc, &mut gate, release, files, WORKERS)
+    ) {
         Ok(outcome) => {
-            let mut sum = 0_u64;
-            for share in &outcome.shares {
-                sum = sum.wrapping_add(*share);
-            }
-            if sum != outcome.pages || outcome.shares.len() != WORKERS {
-                return Ok(Some(0));
-            }
-            Ok(Some(digest(outcome.report.as_slice())))
+            let started = outcome.started;
+            trial.say(format!(in alloc; "{started} started")?.as_str())?;
+            Ok(Some(outcome_digest(&outcome)))
         }
+        Err(_) if gate.calls() > 0 => Err(Fault::Changed),
         Err(StartFault::NoMemory) => Ok(None),
         Err(_) => Err(Fault::Input),
     }
+}
+
+/// A digest of a report; 0 where the shares do not add up to the pages.
+fn outcome_digest(outcome: &Outcome) -> u64 {
+    let mut sum = 0_u64;
+    for share in &outcome.shares {
+        sum = sum.wrapping_add(*share);
+    }
+    if sum != outcome.pages || outcome.shares.len() != WORKERS {
+        return 0;
+    }
+    digest(outcome.report.as_slice())
 }
 
 fn report_digest(_alloc: Global, report: &Report) -> Result<u64, AllocError> {
@@ -295,7 +211,7 @@ fn value_digest(_alloc: Global, value: &Measurement) -> Result<u64, AllocError> 
     Ok(digest(&value.bytes))
 }
 
-fn devicetree_digest(_alloc: Global, bytes: &Option<Vec<u8>>) -> Result<u64, AllocError> {
+fn bytes_digest(_alloc: Global, bytes: &Option<Vec<u8>>) -> Result<u64, AllocError> {
     match bytes {
         Some(bytes) => Ok(digest(bytes.as_slice())),
         None => Ok(0),

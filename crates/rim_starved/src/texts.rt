@@ -2,7 +2,7 @@
 
 use crate::calls::TextCall;
 use crate::machine::{applied, cloned, printed};
-use crate::trial::{Fault, Seen, begin, digest, end, remarks_digest, seen, text_digest};
+use crate::trial::{Fault, Seen, Trial, digest, remarks_digest, text_digest, tried};
 use refusal::NoMemory;
 use rim_check::{ManifestCheck, MarkedLine, check_json, check_manifest, mark_first};
 use rim_cli::{CommandFault, Request, command};
@@ -11,106 +11,52 @@ use std::alloc::{AllocError, Global};
 
 /// What a call on this text answers.
 pub fn seen<R: Print + AllocGlobal>(
-    rt: &R,
+    trial: &Trial<'_, R>,
     call: TextCall,
     text: &[u8],
-    is_tried: bool,
 ) -> Result<Seen, Fault> {
+    let alloc = trial.rt.alloc();
     match call {
-        TextCall::Command => commanded(rt, text, is_tried),
-        TextCall::Replay => replayed(rt, text, is_tried),
-        TextCall::Apply => applied(rt, text, is_tried),
-        TextCall::CloneMonitor => cloned(rt, text, is_tried),
-        TextCall::PrintLines => printed(rt, text, is_tried),
-        TextCall::ReadManifest => manifest_read(rt, text, is_tried),
-        TextCall::CheckManifest => manifest_checked(rt, text, is_tried),
-        TextCall::MarkFirst => fault_marked(rt, text, is_tried),
-        TextCall::CheckJson => written_as_json(rt, text, is_tried),
+        TextCall::Command => commanded(trial, text),
+        TextCall::Replay => tried!(trial, replay(alloc, text) => confirmed, ReplayFault::NoMemory),
+        TextCall::Apply => applied(trial, text),
+        TextCall::CloneMonitor => cloned(trial, text),
+        TextCall::PrintLines => printed(trial, text),
+        TextCall::ReadManifest =>
+            tried!(trial, read_manifest(alloc, text) => release_digest, ManifestFault::NoMemory),
+        TextCall::CheckManifest =>
+            tried!(trial, check_manifest(alloc, MANIFEST, text) => check_digest, NoMemory),
+        TextCall::MarkFirst => tried!(trial, mark_first(alloc, text) => mark_digest, NoMemory),
+        TextCall::CheckJson => written_as_json(trial, text),
     }
 }
 
-fn replayed<R: Print + AllocGlobal>(rt: &R, text: &[u8], is_tried: bool) -> Result<Seen, Fault> {
-    let alloc = rt.alloc();
-    begin(rt, is_tried)?;
-    let answer = replay(alloc, text);
-    end(rt, is_tried)?;
-    Ok(seen!(alloc, answer, confirmed, ReplayFault::NoMemory))
-}
-
-fn manifest_read<R: Print + AllocGlobal>(
-    rt: &R,
-    text: &[u8],
-    is_tried: bool,
-) -> Result<Seen, Fault> {
-    let alloc = rt.alloc();
-    begin(rt, is_tried)?;
-    let answer = read_manifest(alloc, text);
-    end(rt, is_tried)?;
-    Ok(seen!(alloc, answer, release_digest, ManifestFault::NoMemory))
-}
-
-fn manifest_checked<R: Print + AllocGlobal>(
-    rt: &R,
-    text: &[u8],
-    is_tried: bool,
-) -> Result<Seen, Fault> {
-    let alloc = rt.alloc();
-    begin(rt, is_tried)?;
-    let answer = check_manifest(alloc, "manifest.toml", text);
-    end(rt, is_tried)?;
-    Ok(seen!(alloc, answer, check_digest, NoMemory))
-}
-
-fn fault_marked<R: Print + AllocGlobal>(
-    rt: &R,
-    text: &[u8],
-    is_tried: bool,
-) -> Result<Seen, Fault> {
-    let alloc = rt.alloc();
-    begin(rt, is_tried)?;
-    let answer = mark_first(alloc, text);
-    end(rt, is_tried)?;
-    Ok(seen!(alloc, answer, mark_digest, NoMemory))
-}
+/// The path of the manifest that is checked.
+const MANIFEST: &str = "manifest.toml";
 
 /// What a check finds in a manifest, as JSON.
 fn written_as_json<R: Print + AllocGlobal>(
-    rt: &R,
+    trial: &Trial<'_, R>,
     text: &[u8],
-    is_tried: bool,
 ) -> Result<Seen, Fault> {
-    let alloc = rt.alloc();
-    let ManifestCheck::Faulty(faults) = check_manifest(alloc, "manifest.toml", text)? else {
+    let alloc = trial.rt.alloc();
+    let ManifestCheck::Faulty(faults) = check_manifest(alloc, MANIFEST, text)? else {
         return Err(Fault::Input);
     };
-    begin(rt, is_tried)?;
-    let answer = check_json(alloc, &faults, &faults, 3);
-    end(rt, is_tried)?;
-    Ok(seen!(alloc, answer, text_digest, NoMemory))
+    tried!(trial, check_json(alloc, &faults, &faults, 3) => text_digest, NoMemory)
 }
 
 /// The words that are in the lines of a text.
-fn commanded<R: Print + AllocGlobal>(rt: &R, text: &[u8], is_tried: bool) -> Result<Seen, Fault> {
+fn commanded<R: Print + AllocGlobal>(trial: &Trial<'_, R>, text: &[u8]) -> Result<Seen, Fault> {
+    let alloc = trial.rt.alloc();
     let Ok(text) = str::from_utf8(text) else {
         return Err(Fault::Input);
     };
-    let mut words = Vec::new(rt.alloc());
+    let mut words = Vec::new(alloc);
     for word in text.lines() {
         words.push(word)?;
     }
-    command_read(rt, words.as_slice(), is_tried)
-}
-
-fn command_read<R: Print + AllocGlobal>(
-    rt: &R,
-    words: &[&str],
-    is_tried: bool,
-) -> Result<Seen, Fault> {
-    let alloc = rt.alloc();
-    begin(rt, is_tried)?;
-    let answer = command(alloc, words);
-    end(rt, is_tried)?;
-    Ok(seen!(alloc, answer, request_digest, CommandFault::NoMemory))
+    tried!(trial, command(alloc, words.as_slice()) => request_digest, CommandFault::NoMemory)
 }
 
 fn request_digest(alloc: Global, request: &Request) -> Result<u64, AllocError> {

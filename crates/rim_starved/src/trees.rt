@@ -1,82 +1,42 @@
 //! Calls on a flattened devicetree, and on an Image.
 
 use crate::calls::TreeCall;
-use crate::trial::{Fault, Seen, begin, digest, end, seen, text_digest};
+use crate::trial::{Fault, Seen, Trial, digest, made, text_digest, tried};
 use fdt_tree::{FdtFault, Tree, read};
 use rim_release::{ShowFault, show_fdt, show_image};
 use std::alloc::Global;
 
 /// What a call on these bytes answers.
 pub fn seen<R: Print + AllocGlobal>(
-    rt: &R,
+    trial: &Trial<'_, R>,
     call: TreeCall,
     bytes: &[u8],
-    is_tried: bool,
 ) -> Result<Seen, Fault> {
+    let alloc = trial.rt.alloc();
     match call {
-        TreeCall::Read => tree_read(rt, bytes, is_tried),
-        TreeCall::Write => written(rt, bytes, is_tried),
-        TreeCall::Set | TreeCall::SetMemory => edited(rt, call, bytes, is_tried),
-        TreeCall::ShowFdt => devicetree_shown(rt, bytes, is_tried),
-        TreeCall::ShowImage => image_shown(rt, bytes, is_tried),
+        TreeCall::Read => tried!(trial, read(alloc, bytes) => tree_digest, FdtFault::NoMemory),
+        TreeCall::Write => {
+            let tree = tree_of(alloc, bytes)?;
+            tried!(trial, tree.write(alloc) => text_digest, FdtFault::NoMemory)
+        }
+        TreeCall::Set | TreeCall::SetMemory => edited(trial, call, bytes),
+        TreeCall::ShowFdt =>
+            tried!(trial, show_fdt(alloc, bytes) => text_digest, ShowFault::NoMemory),
+        TreeCall::ShowImage =>
+            tried!(trial, show_image(alloc, bytes) => text_digest, ShowFault::NoMemory),
     }
-}
-
-fn tree_read<R: Print + AllocGlobal>(rt: &R, bytes: &[u8], is_tried: bool) -> Result<Seen, Fault> {
-    let alloc = rt.alloc();
-    begin(rt, is_tried)?;
-    let answer = read(alloc, bytes);
-    end(rt, is_tried)?;
-    Ok(seen!(alloc, answer, tree_digest, FdtFault::NoMemory))
-}
-
-fn devicetree_shown<R: Print + AllocGlobal>(
-    rt: &R,
-    bytes: &[u8],
-    is_tried: bool,
-) -> Result<Seen, Fault> {
-    let alloc = rt.alloc();
-    begin(rt, is_tried)?;
-    let answer = show_fdt(alloc, bytes);
-    end(rt, is_tried)?;
-    Ok(seen!(alloc, answer, text_digest, ShowFault::NoMemory))
-}
-
-fn image_shown<R: Print + AllocGlobal>(
-    rt: &R,
-    bytes: &[u8],
-    is_tried: bool,
-) -> Result<Seen, Fault> {
-    let alloc = rt.alloc();
-    begin(rt, is_tried)?;
-    let answer = show_image(alloc, bytes);
-    end(rt, is_tried)?;
-    Ok(seen!(alloc, answer, text_digest, ShowFault::NoMemory))
-}
-
-fn written<R: Print + AllocGlobal>(rt: &R, bytes: &[u8], is_tried: bool) -> Result<Seen, Fault> {
-    let alloc = rt.alloc();
-    let tree = tree_of(alloc, bytes)?;
-    begin(rt, is_tried)?;
-    let answer = tree.write(alloc);
-    end(rt, is_tried)?;
-    Ok(seen!(alloc, answer, text_digest, FdtFault::NoMemory))
 }
 
 /// A call that changes a tree. Where memory is refused, the tree is written as before, and is then changed by the same call.
 fn edited<R: Print + AllocGlobal>(
-    rt: &R,
+    trial: &Trial<'_, R>,
     call: TreeCall,
     bytes: &[u8],
-    is_tried: bool,
 ) -> Result<Seen, Fault> {
-    let alloc = rt.alloc();
+    let alloc = trial.rt.alloc();
     let mut tree = tree_of(alloc, bytes)?;
     let before = tree_digest(alloc, &tree)?;
-    begin(rt, is_tried)?;
-    let answer = edit(alloc, call, &mut tree);
-    end(rt, is_tried)?;
-    match answer {
+    match made!(trial, edit(alloc, call, &mut tree)) {
         Ok(()) => Ok(Some(tree_digest(alloc, &tree)?)),
         Err(FdtFault::NoMemory) => after_refusal(alloc, call, bytes, &mut tree, before),
         Err(_) => Err(Fault::Input),

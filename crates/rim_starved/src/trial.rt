@@ -56,21 +56,32 @@ pub fn word(wanted: Seen, tried: Seen, again: Seen) -> &'static str {
     }
 }
 
-/// Says that the call comes whose requests for memory may be refused, where it is that one. Whoever refuses them counts from here
-/// on.
-pub fn begin<R: Print>(rt: &R, is_tried: bool) -> Result<(), Fault> {
-    if is_tried {
-        println!(rt; "call")?;
-    }
-    Ok(())
+/// Where a call is made, and whether it is the one whose requests for memory may be refused.
+#[derive(Drop)]
+pub struct Trial<'a, R> {
+    pub rt: &'a R,
+    pub is_tried: bool,
 }
 
-/// Says that the call has returned.
-pub fn end<R: Print>(rt: &R, is_tried: bool) -> Result<(), Fault> {
-    if is_tried {
-        println!(rt; "returned")?;
+impl<R: Print> Trial<'_, R> {
+    /// Says that the call comes, where it is the one that is tried. Whoever refuses requests for memory counts from here on.
+    pub fn begin(&self) -> Result<(), Fault> {
+        self.say("call")
     }
-    Ok(())
+
+    /// Says that the call has returned.
+    pub fn end(&self) -> Result<(), Fault> {
+        self.say("returned")
+    }
+
+    /// Prints a line, where the call is the one that is tried.
+    pub fn say(&self, line: &str) -> Result<(), Fault> {
+        let rt = self.rt;
+        if self.is_tried {
+            println!(rt; "{line}")?;
+        }
+        Ok(())
+    }
 }
 
 /// A digest of bytes: FNV-1a of 64 bits.
@@ -97,21 +108,36 @@ pub fn remarks_digest(alloc: Global, remarks: &[Remark]) -> Result<u64, AllocErr
     Ok(digest(&text))
 }
 
-/// What a call answered. `$shown` makes a digest of what it gives, and `$no_memory` is its want of memory.
-macro_rules! seen {
-    ($alloc:expr, $call:expr, $shown:expr, NoMemory) => {
-        match $call {
-            Ok(given) => Some($shown($alloc, &given)?),
-            Err(NoMemory) => None,
+/// A call, between the two lines that are said around it.
+macro_rules! made {
+    ($trial:expr, $call:expr) => {{
+        $trial.begin()?;
+        let answer = $call;
+        $trial.end()?;
+        answer
+    }};
+}
+
+pub(crate) use made;
+
+/// What such a call answers. `$shown` makes a digest of what it gives, and `$no_memory` is its want of memory.
+macro_rules! tried {
+    ($trial:expr, $call:expr => $shown:expr, NoMemory) => {
+        match $crate::trial::made!($trial, $call) {
+            Ok(given) => Ok(Some($shown($trial.rt.alloc(), &given)?)),
+            Err(NoMemory) => Ok(None),
         }
     };
-    ($alloc:expr, $call:expr, $shown:expr, $no_memory:pat) => {
-        match $call {
-            Ok(given) => Some($shown($alloc, &given)?),
-            Err($no_memory) => None,
-            Err(fault) => Some(digest(format!(in $alloc; "{fault:?}")?.as_bytes())),
+    ($trial:expr, $call:expr => $shown:expr, $no_memory:pat) => {
+        match $crate::trial::made!($trial, $call) {
+            Ok(given) => Ok(Some($shown($trial.rt.alloc(), &given)?)),
+            Err($no_memory) => Ok(None),
+            Err(fault) => {
+                let shown = format!(in $trial.rt.alloc(); "{fault:?}")?;
+                Ok(Some($crate::trial::digest(shown.as_bytes())))
+            }
         }
     };
 }
 
-pub(crate) use seen;
+pub(crate) use tried;
