@@ -3,8 +3,9 @@
 /// What was digested so far.
 #[derive(Clone, Copy)]
 pub struct Digest {
-    size: u64,
-    value: u64,
+    /// How many bytes were digested.
+    pub size: u64,
+    pub value: u64,
 }
 
 impl Digest {
@@ -12,15 +13,6 @@ impl Digest {
         size: 0,
         value: 0xcbf2_9ce4_8422_2325,
     };
-
-    /// How many bytes were digested.
-    pub fn size(&self) -> u64 {
-        self.size
-    }
-
-    pub fn value(&self) -> u64 {
-        self.value
-    }
 
     /// Goes on with these bytes.
     pub fn add(&mut self, bytes: &[u8]) {

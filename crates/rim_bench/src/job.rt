@@ -65,36 +65,23 @@ const MIB: usize = 1 << 20;
 const RAM_MIB: u64 = 1 << 20;
 
 impl Job {
-    pub const ALL: [Job; 6] = [
-        Job::Audit,
-        Job::Release,
-        Job::List,
-        Job::Recs,
-        Job::Alike,
-        Job::Guest,
+    /// The jobs, each after its name.
+    pub const NAMED: [(&'static str, Job); 6] = [
+        ("audit", Job::Audit),
+        ("release", Job::Release),
+        ("list", Job::List),
+        ("recs", Job::Recs),
+        ("alike", Job::Alike),
+        ("guest", Job::Guest),
     ];
 
-    pub fn name(self) -> &'static str {
-        match self {
-            Job::Audit => "audit",
-            Job::Release => "release",
-            Job::List => "list",
-            Job::Recs => "recs",
-            Job::Alike => "alike",
-            Job::Guest => "guest",
-        }
-    }
-
     pub fn named(name: &str) -> Option<Job> {
-        match name {
-            "audit" => Some(Job::Audit),
-            "release" => Some(Job::Release),
-            "list" => Some(Job::List),
-            "recs" => Some(Job::Recs),
-            "alike" => Some(Job::Alike),
-            "guest" => Some(Job::Guest),
-            _ => None,
+        for (known, job) in Job::NAMED {
+            if known == name {
+                return Some(job);
+            }
         }
+        None
     }
 
     pub fn shape(self, size: Size) -> Shape {

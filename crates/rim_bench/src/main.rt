@@ -81,21 +81,21 @@ fn done<R: Threads + Wait + Sync + Print + AllocGlobal>(
     rt: &R,
     asked: &Asked,
 ) -> Result<(), Fault> {
-    for job in Job::ALL {
+    for (name, job) in Job::NAMED {
         if asked.job.is_none() || asked.job == Some(job) {
+            let shape = job.shape(asked.size);
+            let devicetree = asked.devicetree.as_slice();
             let found = run(
                 rt,
                 rt.alloc(),
                 job,
-                asked.size,
+                &shape,
                 asked.seed,
                 asked.lanes,
-                asked.devicetree.as_slice(),
+                devicetree,
             )?;
-            let name = job.name();
-            println!(rt; "{name} {} {:016x}", found.size(), found.value()).map_err(
-                |_| Fault::Output,
-            )?;
+            let shown = println!(rt; "{name} {} {:016x}", found.size, found.value);
+            shown.map_err(|_| Fault::Output)?;
         }
     }
     Ok(())

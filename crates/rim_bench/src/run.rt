@@ -1,13 +1,11 @@
 //! A job, done through the public calls of rim.
-ghost use Rattle.std.specs.Prelude.{◌≡◌, length, vec_len};
-
 use crate::contents::{bytes, image};
 use crate::digest::Digest;
-use crate::job::{Job, Shape, Size};
+use crate::job::{Job, Shape};
 use crate::manifest::manifest;
 use rim_release::{
-    Files, Gate, JobId, Lanes, LoadedRelease, Release, audit_with_gate, listing_or_refusal,
-    measure_release, read_manifest, replay, report_alone,
+    Files, Gate, JobId, Lanes, LoadedRelease, audit_with_gate, listing_or_refusal, measure_release,
+    read_manifest, replay, report_alone,
 };
 use std::alloc::{AllocError, Global};
 use std::sync::Wait;
@@ -51,19 +49,18 @@ impl Gate for LanesGate {
 /// How many workers measure, which is the program's default.
 const WORKERS: usize = 4;
 
-/// Does a job, and digests its results.
+/// Does a job on a release of a shape, and digests its results.
 pub fn run<R: Threads + Wait + Sync>(
     rt: &R,
     alloc: Global,
     job: Job,
-    size: Size,
+    shape: &Shape,
     seed: u32,
     lanes: Lanes,
     devicetree: &[u8],
 ) -> Result<Digest, Fault> {
-    let shape = job.shape(size);
-    let text = manifest(alloc, &shape, !devicetree.is_empty())?;
-    let files = files(alloc, &shape, seed, devicetree)?;
+    let text = manifest(alloc, shape, !devicetree.is_empty())?;
+    let files = files(alloc, shape, seed, devicetree)?;
     let release = read_manifest(alloc, text.as_bytes()).map_err(|_| Fault::Refused)?;
     if files.len() != release.file_count() {
         return Err(Fault::Refused);
@@ -72,11 +69,18 @@ pub fn run<R: Threads + Wait + Sync>(
     let mut found = Digest::EMPTY;
     let loaded = LoadedRelease::new(&release, &files);
     match job {
-        Job::Audit => audited(alloc, &gate, loaded, &mut found)?,
+        Job::Audit => {
+            let report = audit_with_gate(alloc, &gate, loaded).map_err(|_| Fault::NoMemory)?;
+            found.add(report.text.as_slice());
+        }
         Job::List => listed(alloc, lanes, loaded, &mut found)?,
-        Job::Guest => alone(alloc, lanes, loaded, &mut found)?,
+        Job::Guest => {
+            let report = report_alone(alloc, lanes, loaded).map_err(|_| Fault::Refused)?;
+            found.add(report.text.as_slice());
+        }
         Job::Release | Job::Recs | Job::Alike => {
-            measured(rt, alloc, &mut gate, &release, &files, &mut found)?
+            let outcome = measure_release(rt, alloc, &mut gate, &release, &files, WORKERS);
+            found.add(outcome.map_err(|_| Fault::Refused)?.report.as_slice());
         }
     }
     Ok(found)
@@ -98,18 +102,6 @@ fn files(alloc: Global, shape: &Shape, seed: u32, devicetree: &[u8]) -> Result<F
     Ok(files)
 }
 
-/// The audit of all launches.
-fn audited(
-    alloc: Global,
-    gate: &LanesGate,
-    loaded: LoadedRelease<'_>,
-    found: &mut Digest,
-) -> Result<(), Fault> {
-    let report = audit_with_gate(alloc, gate, loaded).map_err(|_| Fault::NoMemory)?;
-    found.add(report.text.as_slice());
-    Ok(())
-}
-
 /// The listing of each launch, and whether its replay confirms it.
 fn listed(
     alloc: Global,
@@ -118,43 +110,12 @@ fn listed(
     found: &mut Digest,
 ) -> Result<(), Fault> {
     for i in 0..loaded.release.launches() {
-        let shown = listing_or_refusal(alloc, lanes, loaded.launch(i)).map_err(
-            |_| Fault::NoMemory,
-        )?;
+        let shown = listing_or_refusal(alloc, lanes, loaded.launch(i));
+        let shown = shown.map_err(|_| Fault::NoMemory)?;
         found.add(shown.text.as_slice());
         if replay(alloc, shown.text.as_slice()).is_err() {
             return Err(Fault::Refused);
         }
     }
-    Ok(())
-}
-
-/// The report, made on this thread.
-fn alone(
-    alloc: Global,
-    lanes: Lanes,
-    loaded: LoadedRelease<'_>,
-    found: &mut Digest,
-) -> Result<(), Fault> {
-    let report = report_alone(alloc, lanes, loaded).map_err(|_| Fault::Refused)?;
-    found.add(report.text.as_slice());
-    Ok(())
-}
-
-/// The report, made by workers.
-fn measured<R: Threads + Wait + Sync>(
-    rt: &R,
-    alloc: Global,
-    gate: &mut LanesGate,
-    release: &Release,
-    files: &Files,
-    found: &mut Digest,
-) -> Result<(), Fault>
-    requires { vec_len files.now ≡ length release.now.paths }
-{
-    let outcome = measure_release(rt, alloc, gate, release, files, WORKERS).map_err(
-        |_| Fault::Refused,
-    )?;
-    found.add(outcome.report.as_slice());
     Ok(())
 }
