@@ -103,12 +103,13 @@ pub fn check(rt: &(impl Abort + AllocGlobal), ran: &Ran, status: u8, out: &[u8],
 pub struct FailingReader {
     text: &'static [u8],
     reads_left: u8,
+    kind: ErrorKind,
 }
 
 impl Read for FailingReader {
     fn read(&mut self, buf: &mut [u8]) -> io::Result<usize> {
         if self.reads_left == 0 {
-            return Err(io::Error::from(ErrorKind::InvalidData));
+            return Err(io::Error::from(self.kind));
         }
         self.reads_left -= 1;
         let size = buf.len().min(100);
@@ -121,8 +122,8 @@ impl Read for FailingReader {
 pub enum Failing {
     /// It is not opened.
     Open,
-    /// Its reader fails after so many reads.
-    Read(u8),
+    /// Its reader fails after so many reads, with this kind of error.
+    Read(u8, ErrorKind),
 }
 
 /// The release `BOTH` and its file, of which the one that is opened as this number fails: the manifest is 0, and its file 1.
@@ -155,12 +156,16 @@ impl Opener for FailingFiles {
         let is_failing = self.opened == self.number;
         self.opened = self.opened.saturating_add(1);
         let text: &'static [u8] = if path == "f" { &NINES } else { BOTH.as_bytes() };
-        let reads_left = match self.failing {
+        let (reads_left, kind) = match self.failing {
             Failing::Open if is_failing => return None,
-            Failing::Read(reads) if is_failing => reads,
-            _ => u8::MAX,
+            Failing::Read(reads, kind) if is_failing => (reads, kind),
+            _ => (u8::MAX, ErrorKind::Other),
         };
-        Some(FailingReader { text, reads_left })
+        Some(FailingReader {
+            text,
+            reads_left,
+            kind,
+        })
     }
 }
 
@@ -196,28 +201,6 @@ impl Opener for InterruptedFiles {
             left: self.0,
             text: SMALLEST,
         })
-    }
-}
-
-/// A reader for whose bytes memory is refused.
-#[derive(Drop)]
-pub struct MemorylessReader;
-
-impl Read for MemorylessReader {
-    fn read(&mut self, _buf: &mut [u8]) -> io::Result<usize> {
-        Err(io::Error::from(ErrorKind::OutOfMemory))
-    }
-}
-
-/// Opens every path as such a reader.
-#[derive(Drop)]
-pub struct MemorylessFiles;
-
-impl Opener for MemorylessFiles {
-    type Reader = MemorylessReader;
-
-    fn open(&mut self, _path: &str) -> Option<MemorylessReader> {
-        Some(MemorylessReader)
     }
 }
 

@@ -1,7 +1,7 @@
 //! Faults of readers, writers and memory: one line on standard error, nothing on standard output, and their exit status.
 use super::fakes::{
     BOTH_REPORT, Failing, FailingFiles, FailingFlush, FailingWriter, InterruptedFiles,
-    MemorylessFiles, NO_TERMINALS, Ran, SMALLEST_REPORT, check, run_on,
+    NO_TERMINALS, Ran, SMALLEST_REPORT, check, run_on,
 };
 use rim_cli::{FreeGate, Opener, report_unreadable, run};
 use std::io;
@@ -42,7 +42,7 @@ fn file_that_is_not_opened(rt: HostRuntime) {
 /// One file fails at its first read, at its second, and so on until its reader is not asked so often.
 fn check_reads(rt: &(impl Abort + AllocGlobal + Threads + Wait + Sync), number: u8) {
     for read in 0..u8::MAX {
-        let files = &mut FailingFiles::new(number, Failing::Read(read));
+        let files = &mut FailingFiles::new(number, Failing::Read(read, ErrorKind::InvalidData));
         let ran = run_on(rt, &MEASURE, files);
         if ran.status == 0 {
             return check(rt, &ran, 0, BOTH_REPORT, b"");
@@ -61,20 +61,15 @@ fn reader_that_fails_at_each_read(rt: HostRuntime) {
 
 #[test]
 fn failing_reader_of_a_check(rt: HostRuntime) {
-    let files = &mut FailingFiles::new(0, Failing::Read(0));
+    let files = &mut FailingFiles::new(0, Failing::Read(0, ErrorKind::InvalidData));
     check_fault(&rt, &CHECK, files, 3, UNREADABLE);
 }
 
 #[test]
 fn interruptions_that_are_too_many(rt: HostRuntime) {
     for in_a_row in [1024, u32::MAX] {
-        check_fault(
-            &rt,
-            &MEASURE,
-            &mut InterruptedFiles(in_a_row),
-            3,
-            UNREADABLE,
-        );
+        let files = &mut InterruptedFiles(in_a_row);
+        check_fault(&rt, &MEASURE, files, 3, UNREADABLE);
     }
 }
 
@@ -86,12 +81,10 @@ fn interrupted_reader(rt: HostRuntime) {
 
 #[test]
 fn no_memory_for_a_file(rt: HostRuntime) {
-    check_fault(&rt, &MEASURE, &mut MemorylessFiles, 4, NO_MEMORY);
-}
-
-#[test]
-fn no_memory_for_a_file_of_a_check(rt: HostRuntime) {
-    check_fault(&rt, &CHECK, &mut MemorylessFiles, 4, NO_MEMORY);
+    for words in [&MEASURE, &CHECK] {
+        let files = &mut FailingFiles::new(0, Failing::Read(0, ErrorKind::OutOfMemory));
+        check_fault(&rt, words, files, 4, NO_MEMORY);
+    }
 }
 
 /// A run that writes to these has this status. What it wrote is not looked at.

@@ -9,7 +9,6 @@ mod faults;
 #[cfg(test)]
 mod headers;
 #[cfg(test)]
-#[cfg(test)]
 mod library;
 #[cfg(test)]
 mod openings;

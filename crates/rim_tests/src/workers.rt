@@ -44,33 +44,19 @@ s2sz = 33
 /// How many jobs there are: four pages and three launches.
 const JOBS: u64 = 7;
 
-/// A count of 1 of each job, four pages and then the launches, in a byte of its own.
-const ONES: [u64; 7] = [
-    0x1,
-    0x100,
-    0x1_0000,
-    0x100_0000,
-    0x1_0000_0000,
-    0x100_0000_0000,
-    0x1_0000_0000_0000,
-];
-
 /// Four pages and two launches, once each.
 const SIX_ONCE: u64 = 0x101_0101_0101;
 
 /// Four pages and three launches, once each.
 const SEVEN_ONCE: u64 = 0x1_0101_0101_0101;
 
-/// A count of 1 of this job. What is no job has a byte above all others.
+/// A count of 1 of this job in a byte of its own, four pages and then the launches. What is no job has a byte above all others.
 fn one_of(job: JobId) -> u64 {
     let number = match job {
         JobId::Page(page) => page,
         JobId::Launch(launch) => launch.saturating_add(4),
     };
-    match ONES.get(number) {
-        Some(one) => *one,
-        None => 0x100_0000_0000_0000,
-    }
+    1 << (8 * number.min(7))
 }
 
 /// Holds the first page until two others were put, for a number of turns. It counts the calls before and after each
@@ -299,9 +285,8 @@ fn check_by_all(
         check_by(rt, manifest, workers, report.as_slice())?;
     }
     let audit = audited(rt.alloc(), manifest)?;
-    assert!(rt;
-        after_first_line(report.as_slice()).starts_with(after_first_line(audit.as_slice()))
-    );
+    let audited = after_first_line(audit.as_slice());
+    assert!(rt; after_first_line(report.as_slice()).starts_with(audited));
     Ok(())
 }
 
