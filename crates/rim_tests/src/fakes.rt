@@ -122,7 +122,7 @@ impl Read for FailingReader {
 pub enum Failing {
     /// It is not opened.
     Open,
-    /// Its reader fails after so many reads, with this kind of error.
+    /// Its reader fails after this many reads, with this kind of error.
     Read(u8, ErrorKind),
 }
 

@@ -83,7 +83,7 @@ const TOO_MANY_PAGES: Parts = Parts {
     ..NOTHING
 };
 
-/// IPAs of 33 bits, blocks of 2 MiB, and so many granules.
+/// IPAs of 33 bits, blocks of 2 MiB, and this many granules.
 macro_rules! pool {
     ($pool_count:expr) => {
         config!(33, 2, 0, $pool_count)

@@ -48,7 +48,7 @@ enum Plan {
 enum Ask {
     /// To make a region RAM, from its first address to the first past it.
     Ram(u64, u64, Plan),
-    /// From an address on, to give data to so many pages.
+    /// From an address on, to give data to this many pages.
     Data(u64, u64, Plan),
     /// An address, and the level at which its walk ends.
     Walk(u64, u8),
