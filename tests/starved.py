@@ -92,7 +92,7 @@ BYTES = {
     **{call: ["listing of two GiB of RAM", "listing of all kinds"] for call in ("replay", "Monitor::apply", "Monitor::try_clone", "print_line")},
     "read_manifest": ["two GiB of RAM", "both algorithms", "a page twice", "all kinds", "a faulty manifest"],
     "check_manifest": ["two GiB of RAM", "both algorithms", "a page twice", "all kinds", "a faulty manifest"],
-    "mark_first": ["both algorithms", "a faulty manifest"], "check_json": ["a faulty manifest"],
+    "mark_first": ["a faulty manifest"], "check_json": ["a faulty manifest"],
     **{call: ["two GiB of RAM", "both algorithms", "all kinds"] for call in ("place", "list", "LaunchPlan::read", "audit", "listing", "trace")},
     "Tables::ripas_runs": ["both algorithms"], "Tables::data_pages": ["both algorithms"], "Core::new": ["both algorithms"],
     **{call: ["both algorithms", "all kinds"] for call in ("Table::reserve", "DigestRow::reserve", "BoardState::new")},

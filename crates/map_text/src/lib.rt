@@ -9,4 +9,4 @@ mod warnings;
 pub use columns::Lines;
 pub use picture::{push_ram, push_space, push_stated};
 pub use text::{map_text, push_head};
-pub use warnings::warning_lines;
+pub use warnings::warning_remarks;

@@ -1,14 +1,14 @@
 //! The map of a launch as lines. That they show the launch is tested alone; the counts in them are proved where they are made.
 use crate::columns::{COLUMNS, Lines, push_name, written};
 use crate::picture::push_space;
-use crate::warnings::push_warnings;
+use crate::warnings::warning_remarks;
 use map_rows::{Extensions, Granules, Shown, count_extensions, count_granules, item_rows};
 use refusal::NoMemory;
 use rim_accepted::{AcceptedLaunch, ListedLaunch};
 use rim_desc::RecRule;
 use rim_launch::Config;
 use rim_manifest::{NamedLaunch, Release};
-use shown_text::Line;
+use shown_text::{Line, lines_of};
 use std::alloc::{AllocError, Global};
 use std::fmt;
 use std::fmt::Write;
@@ -29,8 +29,9 @@ pub fn map_text(
     push_head(alloc, &mut text, launch)?;
     push_placed(alloc, &mut text, Shown { release, launch }, accepted)?;
     push_counts(alloc, &mut text, listed)?;
-    push_warnings(alloc, &mut text, accepted)?;
-    Ok(text.into_bytes())
+    let mut text = text.into_bytes();
+    text.extend_from_slice(&lines_of(alloc, &warning_remarks(alloc, accepted)?)?)?;
+    Ok(text)
 }
 
 /// Adds the address space of a launch.

@@ -10,10 +10,11 @@ use Rattle.rim_manifest.specs.Found.{AreFound}
 use Rattle.rim_manifest.specs.Manifest.{Answer, answer_of, document_of, manifest_of, read_of}
 use Rattle.rim_manifest.specs.inside.Kept.{faults_in}
 use Rattle.rim_check.specs.Explained.{Explains, IsCheckOf, Located, fault_said, others_said}
-use Rattle.rim_check.specs.inside.Listed.{ShowsFindings, ShowsList, faults_at, no_document}
+use Rattle.rim_check.specs.inside.Listed.{ListsFaults, ShowsFindings, ShowsList, faults_at, no_document}
 use Rattle.shown_text.specs.declared.remark.Remark.{Remark}
 use Rattle.shown_text.specs.Lines.{AddsAll, Saying, SayInTurn}
 use Rattle.rim_check.specs.declared.manifest.ManifestCheck.{ManifestCheck}
+use Rattle.rim_check.specs.declared.manifest.ManifestCheck.TheVariants.{Faulty, Readable}
 use Rattle.rim_spot.specs.declared.spot.Spot.{Spot}
 
 -- a text that is no document is explained by one remark
@@ -57,7 +58,7 @@ lists-all path ms listed shown others more remarks same beside within none shows
     (λ (said : List Saying) (says : SayInTurn said remarks). subst (λ (ss : List Saying). SayInTurn ss remarks) (sym (append-nil said)) says)
 
 -- a document is explained by the list of what was found in it
-pub explains-list : (path bytes : List ℕ) (ms : Members) (listed : List ManifestFault) (others : ℕ) (remarks : List Remark) (found : AreFound ms listed others)
+explains-list : (path bytes : List ℕ) (ms : Members) (listed : List ManifestFault) (others : ℕ) (remarks : List Remark) (found : AreFound ms listed others)
     → document_of bytes ≡ Some ms → ShowsList path ms listed others remarks → Explains path bytes found.fault remarks
 explains-list path bytes ms listed others remarks found document shows = record {
   faults = shows.faults;
@@ -75,3 +76,11 @@ of-document path bytes ms a m document read is = subst (λ (x : Answer). IsCheck
 pub of-none : (path bytes : List ℕ) (m : ManifestCheck) → document_of bytes ≡ None → IsCheckOf path bytes (Err Syntax) m
     → IsCheckOf path bytes (manifest_of bytes) m
 of-none path bytes m document is = subst (λ (x : Answer). IsCheckOf path bytes x m) (sym (ap answer_of document)) is
+
+-- a check that lists what was found in a document is one of the manifest
+pub of-list : (path bytes : List ℕ) (ms : Members) (listed : List ManifestFault) (others : ℕ) (m : ManifestCheck) (found : AreFound ms listed others)
+    → document_of bytes ≡ Some ms → ListsFaults path ms listed others m → IsCheckOf path bytes (manifest_of bytes) m
+of-list path bytes ms listed others (Faulty remarks spot) found document shows =
+    of-document path bytes ms (Err found.fault) (Faulty remarks spot) document found.refused
+    (explains-list path bytes ms listed others remarks.items found document shows)
+of-list path bytes ms listed others (Readable read) found document shows = absurd shows

@@ -61,13 +61,13 @@ no-keys l (Ok p) e = absurd cc
 no-keys l (Err fault) e = refl
 
 -- one that is refused adds its remark
-pub refused-found : (files : List (List ℕ)) (l : NamedData) (why : LaunchReason) (hint : List ℕ) (old new : Found)
-    → IsRefusedFor l.launch files why → AddsLine (refusal_said l why hint) old.refusals.items new.refusals.items
+pub refused-found : (files : List (List ℕ)) (l : NamedData) (why : LaunchReason) (old new : Found)
+    → IsRefusedFor l.launch files why → AddsLine (refusal_said l why) old.refusals.items new.refusals.items
     → new.has_refused ≡ true → new.pages ≡ old.pages → new.warnings ≡ old.warnings → AddsFound files l old new
-refused-found files l why hint old new refused adds is_refused pages warnings =
+refused-found files l why old new refused adds is_refused pages warnings =
     let is = is-refused l.launch files why refused in
     record {
-      said = says-why files l why hint old.refusals.items new.refusals.items refused adds;
+      said = says-why files l why old.refusals.items new.refusals.items refused adds;
       refused = is_refused ∙ or-true old.has_refused ∙ ap (λ (b : Bool). old.has_refused || b) (sym is);
       pages = pages ∙ sym (append-nil old.pages) ∙ ap (λ (ks : List PageKey). old.pages ++ ks) (sym (no-keys l.launch (accepted_of l.launch files) is));
       warned = λ (ls : List NamedData) (there : slice_get ls l.launch.number ≡ Some l) are. subst (λ w. AreWarned files ls (numbers_of w)) (sym warnings) are;

@@ -28,15 +28,16 @@ at-place P f (y ∷ ys) (suc i) x low is all = at-place P f ys i x (omega (arith
 -- the warning at a place adds its remark
 pub warned-next : (files : List (List ℕ)) (ls : List NamedData) (w : Warnings) (i : ℕ) (x : Warning) (launch : NamedData) (old new : List Remark)
     → i < length w.found.items → x ≡ get_or w.found.items i x → slice_get ls x.launch ≡ Some launch
-    → AddsLine (warning_said launch.name) old new → AreWarned files ls (numbers_of w) → ShowsEach files ls old → ShowsEach files ls new
+    → AddsLine (warning_said launch.name x.others) old new → AreWarned files ls (numbers_of w) → ShowsEach files ls old → ShowsEach files ls new
 warned-next files ls w i x launch old new low is there adds are shows =
     let accepted : IsAcceptedAt files ls x.launch = at-place (IsAcceptedAt files ls) (λ (y : Warning). y.launch) w.found.items i x low is are in
     let same : accepted.launch ≡ launch = same_Some _ _ (sym accepted.there ∙ there) in
-    let own : IsWarning files ls (warning_said launch.name) =
-    subst (λ (l : NamedData). IsWarning files ls (warning_said l.name)) same (accepted.launch, x.launch, accepted.there, accepted.accepted, refl) in
+    let own : IsWarning files ls (warning_said launch.name x.others) =
+    subst (λ (l : NamedData). IsWarning files ls (warning_said l.name x.others)) same
+    (accepted.launch, x.launch, x.others, accepted.there, accepted.accepted, refl) in
     record {
-      said = shows.said ++ warning_said launch.name ∷ [];
-      each = each-append (IsWarning files ls) shows.said (warning_said launch.name ∷ []) shows.each (own, tt);
+      said = shows.said ++ warning_said launch.name x.others ∷ [];
+      each = each-append (IsWarning files ls) shows.said (warning_said launch.name x.others ∷ []) shows.each (own, tt);
       lines = adds shows.said shows.lines;
     }
 

@@ -1,15 +1,10 @@
 -- What a check finds as JSON: the lines of its remarks. Members are in the order of their keys. This project's choice.
 use Rattle.std.specs.Prelude.{ℕ, List, ◌++◌, codes, map}
-use Rattle.std.specs.Str.Lossy.{utf8_lossy}
-use Rattle.serde_json.specs.Data.{Data, array, member, no_members, number, object, string, unsigned}
+use Rattle.serde_json.specs.Data.{Data, array, member, no_members, number, object, unsigned}
 use Rattle.serde_json.specs.View.{items_of}
 use Rattle.serde_json.specs.Written.{compact_text}
-use Rattle.shown_text.specs.Lines.{line_of}
+use Rattle.shown_text.specs.RemarkJson.{remark_json}
 use Rattle.shown_text.specs.declared.remark.Remark.{Remark}
-
--- a remark as a text: its line, where that is UTF-8
-abbrev pub remark_json : Remark → Data
-remark_json r = string (utf8_lossy (line_of r))
 
 abbrev pub remarks_json : List Remark → Data
 remarks_json remarks = array (items_of (map remark_json remarks))

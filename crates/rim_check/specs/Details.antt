@@ -1,5 +1,5 @@
--- What is said of the reason for which a launch is refused, after the word of the refusal. This project's choice.
-use Rattle.std.specs.Prelude.{ℕ, ◌+◌, ◌*◌, false, List, ◌++◌, codes, decimal}
+-- What is said of the reason for which a launch is refused: what is given, and what is expected. This project's choice.
+use Rattle.std.specs.Prelude.{ℕ, ◌+◌, ◌*◌, false, List, [], ◌++◌, codes, decimal}
 use Rattle.std.specs.Fmt.{digits}
 use Rattle.arm64_image.specs.declared.ImageFault.TheVariants.{BadMagic, Short as Cut}
 use Rattle.rmm_model.specs.Start.{protected_end}
@@ -39,16 +39,26 @@ range_text base end = hexadecimal base ++ (codes " to " ++ hexadecimal end)
 
 -- why an item of this name is refused
 abbrev pub item_detail : List ℕ → ItemReason → List ℕ
-item_detail name (item.Kernel Cut count) = codes "item \"" ++ (name ++ (codes "\": its file has " ++ (decimal count ++ codes " bytes, expected at least 64")))
+item_detail name (item.Kernel Cut count) = codes "item \"" ++ (name ++ (codes "\": its file has " ++ (decimal count ++ codes " bytes")))
 item_detail name (item.Kernel BadMagic count) = codes "item \"" ++ (name ++ codes "\": bytes 56 to 59 of its file are not those of an arm64 Image")
 item_detail name (item.Edits fault) = codes "item \"" ++ (name ++ codes "\": its file cannot be edited as a devicetree")
-item_detail name (item.TooLarge size) = codes "item \"" ++ (name ++ (codes "\": size " ++ (decimal size ++ (codes ", expected at most " ++ decimal SIZE_LIMIT))))
-item_detail name (item.Unaligned at) = codes "item \"" ++ (name ++ (codes "\" at " ++ (hexadecimal at ++ codes ", expected a multiple of 8")))
-item_detail name (item.KernelBase at) = codes "item \"" ++ (name ++ (codes "\" at " ++ (hexadecimal at ++ codes ", expected a multiple of 0x200000")))
-item_detail name (item.Short size count) = codes "item \"" ++ (name ++ (codes "\": size " ++ (decimal size ++ (codes ", expected at least its " ++ (decimal count ++ codes " bytes")))))
-item_detail name (item.TooManyPages pages) = codes "with item \"" ++ (name ++ (codes "\" the launch has " ++ (decimal pages ++ (codes " pages, expected at most " ++ decimal PAGE_LIMIT))))
+item_detail name (item.TooLarge size) = codes "item \"" ++ (name ++ (codes "\": size " ++ decimal size))
+item_detail name (item.Unaligned at) = codes "item \"" ++ (name ++ (codes "\" at " ++ hexadecimal at))
+item_detail name (item.KernelBase at) = codes "item \"" ++ (name ++ (codes "\" at " ++ hexadecimal at))
+item_detail name (item.Short size count) = codes "item \"" ++ (name ++ (codes "\": size " ++ decimal size))
+item_detail name (item.TooManyPages pages) = codes "with item \"" ++ (name ++ (codes "\" the launch has " ++ (decimal pages ++ codes " pages")))
 item_detail name (item.PastEnd range) = codes "item \"" ++ (name ++ (codes "\" " ++ (range_text range.base range.end ++ codes " ends past 2^64")))
 item_detail name (item.OutsideRam range page) = codes "item \"" ++ (name ++ (codes "\" " ++ (range_text range.base range.end ++ (codes " is not in ram: no region has all of the page " ++ hexadecimal (PAGE_SIZE * page)))))
+
+-- and what is expected of it, where that is said
+abbrev pub item_expected : ItemReason → List ℕ
+item_expected (item.Kernel Cut count) = codes "at least 64"
+item_expected (item.TooLarge size) = codes "at most " ++ decimal SIZE_LIMIT
+item_expected (item.Unaligned at) = codes "a multiple of 8"
+item_expected (item.KernelBase at) = codes "a multiple of 0x200000"
+item_expected (item.Short size count) = codes "at least its " ++ (decimal count ++ codes " bytes")
+item_expected (item.TooManyPages pages) = codes "at most " ++ decimal PAGE_LIMIT
+item_expected _ = []
 
 -- two items with their extents
 abbrev pub pair_text : (ℕ → List ℕ) → ItemExtent → ItemExtent → List ℕ
@@ -58,7 +68,7 @@ pair_text names a b = codes "items \"" ++ (names a.item ++ (codes "\" " ++ (rang
 abbrev pub layout_detail : (ℕ → List ℕ) → LayoutReason → List ℕ
 layout_detail names (layout.Item n why) = item_detail (names n) why
 layout_detail names (layout.Overlap first second) = pair_text names first second
-layout_detail names (layout.InitrdWindow kernel initrd) = pair_text names kernel initrd ++ codes ", expected within 32 GiB"
+layout_detail names (layout.InitrdWindow kernel initrd) = pair_text names kernel initrd
 
 -- ---- the list
 
@@ -89,7 +99,7 @@ step_detail c why.RecNotRunnable = codes "runnable is false; write rim_manifest 
 
 -- why a launch has no list
 abbrev pub list_detail : (ℕ → List ℕ) → Config → ListReason → List ℕ
-list_detail names c (list.TooManyRecs count) = decimal count ++ (codes " RECs, expected at most " ++ decimal REC_LIMIT)
+list_detail names c (list.TooManyRecs count) = decimal count ++ codes " RECs"
 list_detail names c list.Opening = codes "the start tables and the realm descriptor: " ++ pool_text c
 list_detail names c (list.Step number s reason) = step_text names s ++ step_detail c reason
 
@@ -98,3 +108,10 @@ list_detail names c (list.Step number s reason) = step_text names s ++ step_deta
 abbrev pub reason_detail : (ℕ → List ℕ) → Config → LaunchReason → List ℕ
 reason_detail names c (launch.Layout reason) = layout_detail names reason
 reason_detail names c (launch.List placed reason granules) = list_detail names c reason
+
+-- what is expected, where that is said
+abbrev pub reason_expected : LaunchReason → List ℕ
+reason_expected (launch.Layout (layout.Item n why)) = item_expected why
+reason_expected (launch.Layout (layout.InitrdWindow kernel initrd)) = codes "within 32 GiB"
+reason_expected (launch.List placed (list.TooManyRecs count) granules) = codes "at most " ++ decimal REC_LIMIT
+reason_expected _ = []

@@ -18,10 +18,10 @@ use Rattle.rim_pages.specs.Faults.{start_kind_of}
 use Rattle.rim_pages.specs.Pages.{page_keys}
 use Rattle.rim_pages.specs.declared.fault.StartFault.TheVariants as start
 use Rattle.rim_pages.specs.declared.different.TheConstants.{DISTINCT_LIMIT}
-use Rattle.rim_check.specs.Details.{reason_detail}
+use Rattle.rim_check.specs.Details.{reason_detail, reason_expected}
 use Rattle.rim_hints.specs.Fronts.{place_text, spot_text}
 use Rattle.shown_text.specs.declared.remark.Remark.{Remark}
-use Rattle.shown_text.specs.Lines.{AddsLine, Saying, SayInTurn, lines_of}
+use Rattle.shown_text.specs.Lines.{Saying, SayInTurn, launch_text, said_of}
 use Rattle.rim_check.specs.Warned.{ShowsWarnings}
 use Rattle.rim_check.specs.declared.found.LaunchCheck.{LaunchCheck}
 use Rattle.rim_check.specs.declared.found.ReleaseFault.{ReleaseFault}
@@ -38,22 +38,27 @@ pub record Located : Type 0 where
   pub place : Place
   pub subject : Subject
 
--- what is before the word of a fault: the manifest's path, the place in the text, and the table with its key where the text is a document
-abbrev pub fault_front : List ℕ → Option Members → Located → Option (List ℕ)
-fault_front path None l = Some (path ++ (spot_text l.spot ++ []))
-fault_front path (Some ms) l = option_map (λ place. path ++ (spot_text l.spot ++ place)) (place_text ms l.place l.subject)
+-- where a fault is: the manifest's path, the place in the text, and the table with its key where the text is a document
+abbrev pub fault_place : List ℕ → Option Members → Located → Option (List ℕ)
+fault_place path None l = Some (path ++ (spot_text l.spot ++ []))
+fault_place path (Some ms) l = option_map (λ place. path ++ (spot_text l.spot ++ place)) (place_text ms l.place l.subject)
 
 -- what is said of a fault of a manifest: where it is, and its word
 abbrev pub fault_said : List ℕ → Option Members → Located → Saying
-fault_said path document l = record { front = fault_front path document l; word = kind_of l.fault; detail = None }
+fault_said path document l = record {
+  place = fault_place path document l;
+  word = Some (kind_of l.fault);
+  given = None;
+  expected = None;
+  help = None;
+}
 
 -- that there are more faults than have a line
+abbrev pub others_text : ℕ → List ℕ
+others_text more = decimal more ++ (if more == 1 then codes " more fault" else codes " more faults")
+
 abbrev pub others_said : ℕ → List Saying
-others_said more = if nat_lt 0 more then record {
-  front = Some [];
-  word = decimal more;
-  detail = Some (if more == 1 then codes " more fault" else codes " more faults");
-} ∷ [] else []
+others_said more = if nat_lt 0 more then said_of (Some []) (others_text more) [] [] ∷ [] else []
 
 -- How many faults have a line, and how many more there are. A text that is no document has one. Of a document the others are at least those
 -- that are not listed, and none that has a line is among them: what is listed and has no line is one of them, or has the cause of another.
@@ -73,39 +78,26 @@ pub record Explains (path bytes : List ℕ) (fault : ManifestFault) (remarks : L
 
 -- a manifest is explained as faulty exactly where it is refused
 abbrev pub IsCheckOf : List ℕ → List ℕ → Answer → ManifestCheck → Type 0
-IsCheckOf path bytes (Err fault) (Faulty remarks) = Explains path bytes fault remarks.items
+IsCheckOf path bytes (Err fault) (Faulty remarks spot) = Explains path bytes fault remarks.items
 IsCheckOf path bytes (Ok release) (Readable read) = read ≡ release
 IsCheckOf path bytes _ _ = ⊥
 
 -- ---- launches
 
--- how the line of a launch begins
-abbrev pub launch_front : List ℕ → List ℕ
-launch_front name = codes "launch \"" ++ (name ++ codes "\": ")
-
--- what is said of a launch that is refused for this reason: its name, the word of its refusal, the reason's detail, and a hint
-abbrev pub refusal_said : NamedData → LaunchReason → List ℕ → Saying
-refusal_said l why hint = record {
-  front = Some (launch_front l.name);
-  word = audit_kind_of (audit_fault_of why);
-  detail = Some ((codes ": " ++ reason_detail (item_name l) l.launch.config why) ++ hint);
+-- what is said of a launch that is refused for this reason: its name, the word of its refusal, and the reason. Nothing is known of what helps
+abbrev pub refusal_said : NamedData → LaunchReason → Saying
+refusal_said l why = record {
+  place = Some (launch_text l.name 0);
+  word = Some (audit_kind_of (audit_fault_of why));
+  given = Some (reason_detail (item_name l) l.launch.config why);
+  expected = Some (reason_expected why);
+  help = None;
 }
 
--- there is that remark more, with a hint of which nothing is known
-pub record AddsRefusal (l : NamedData) (why : LaunchReason) (old new : List Remark) : Type 0 where
-  pub hint : List ℕ
-  pub adds : AddsLine (refusal_said l why hint) old new
-
--- a text is the line of a launch that is refused for this reason
-pub record IsRefusalLine (l : NamedData) (why : LaunchReason) (line : List ℕ) : Type 0 where
-  pub remarks : List Remark
-  pub adds : AddsRefusal l why [] remarks
-  pub is : line ≡ lines_of remarks
-
--- what is said of a launch: nothing where it is accepted, else its refusal, with a hint of which nothing is known
+-- what is said of a launch: nothing where it is accepted, else its refusal
 abbrev pub IsSaidOf : List (List ℕ) → NamedData → List Saying → Type 0
 IsSaidOf files l said = (IsOk (rim_for l.launch files) × (said ≡ []))
-    ⊎ ((why : LaunchReason) × (hint : List ℕ) × IsRefusedFor l.launch files why × (said ≡ refusal_said l why hint ∷ []))
+    ⊎ ((why : LaunchReason) × IsRefusedFor l.launch files why × (said ≡ refusal_said l why ∷ []))
 
 -- what is said of the launches of a manifest, in their order
 abbrev pub AreSaidOf : List (List ℕ) → List NamedData → List Saying → Type 0
@@ -113,16 +105,14 @@ AreSaidOf files [] said = said ≡ []
 AreSaidOf files (l ∷ ls) said = (own others : List Saying) × IsSaidOf files l own × AreSaidOf files ls others × (said ≡ own ++ others)
 
 -- how many different measured pages a release has, and how many it may have
-abbrev pub pages_detail : ℕ → List ℕ
-pages_detail count = codes ": " ++ (decimal count ++ (codes " different measured pages, expected at most " ++ decimal DISTINCT_LIMIT))
+abbrev pub pages_saying : ℕ → Saying
+pages_saying count =
+    said_of (Some (start_kind_of start.TooManyPages)) (codes "manifest") (decimal count ++ codes " different measured pages")
+    (codes "at most " ++ decimal DISTINCT_LIMIT)
 
--- what is said of the pages of a release, where the launches that are accepted have too many different measured ones: how many they are
+-- what is said of the pages of a release, where the launches that are accepted have too many different measured ones
 abbrev pub pages_said : ℕ → List Saying
-pages_said count = if nat_lt DISTINCT_LIMIT count then record {
-  front = Some (codes "manifest: ");
-  word = start_kind_of start.TooManyPages;
-  detail = Some (pages_detail count);
-} ∷ [] else []
+pages_said count = if nat_lt DISTINCT_LIMIT count then pages_saying count ∷ [] else []
 
 -- there is one remark for each launch that is refused, and then one where there are too many pages
 pub record ShowsFaults (files : List (List ℕ)) (ls : List NamedData) (remarks : List Remark) : Type 0 where

@@ -1,7 +1,7 @@
-//! What is at fault in a launch that is refused, in words: the text after the word of its refusal.
+//! What is at fault in a launch that is refused, in words: what is given, and what is expected.
 ghost use Rattle.std.specs.Prelude.{◌≡◌, ◌+◌, ◌++◌, IfOk, codes, false, string_bytes};
 ghost use Rattle.std.specs.Fmt.{digits};
-ghost use Rattle.rim_check.specs.Details.{hexadecimal, item_detail, layout_detail, list_detail, pair_text, plan_detail, pool_text, range_text, reason_detail, step_detail, step_text};
+ghost use Rattle.rim_check.specs.Details.{hexadecimal, item_detail, item_expected, layout_detail, list_detail, pair_text, plan_detail, pool_text, range_text, reason_detail, reason_expected, step_detail, step_text};
 ghost use Rattle.rim_manifest.specs.Launches.{item_name};
 ghost use Rattle.ipa_layout.specs.declared.reason.ItemReason.TheVariants as ItemReason;
 
@@ -59,23 +59,20 @@ fn image_detail(
         (λ s. string_bytes s ≡ item_detail name.now (ItemReason.Kernel fault count)) }
 {
     match fault {
-        ImageFault::Short => format!(in alloc;
-            "item \"{name}\": its file has {count} bytes, expected at least 64"
-        ),
+        ImageFault::Short => format!(in alloc; "item \"{name}\": its file has {count} bytes"),
         ImageFault::BadMagic => format!(in alloc;
             "item \"{name}\": bytes 56 to 59 of its file are not those of an arm64 Image"
         ),
     }
 }
 
-/// That an item is not at a multiple of what it has to be at.
-fn address_detail(alloc: Global, name: &str, at: u64, multiple: &str) -> Result<String, AllocError>
-    ensures { IfOk result (λ s. string_bytes s ≡ codes "item \"" ++ (name.now
-        ++ (codes "\" at " ++ (hexadecimal at
-        ++ (codes ", expected a multiple of " ++ multiple.now))))) }
+/// Where an item is that may not be there.
+fn address_detail(alloc: Global, name: &str, at: u64) -> Result<String, AllocError>
+    ensures { IfOk result (λ s. string_bytes s
+        ≡ codes "item \"" ++ (name.now ++ (codes "\" at " ++ hexadecimal at))) }
 {
     let at = hexadecimal(alloc, u128::from(at))?;
-    format!(in alloc; "item \"{name}\" at {at}, expected a multiple of {multiple}")
+    format!(in alloc; "item \"{name}\" at {at}")
 }
 
 /// That an item ends past 2^64.
@@ -111,19 +108,41 @@ fn item_detail(alloc: Global, name: &str, reason: &ItemReason) -> Result<String,
         ItemReason::Edits(_) => {
             format!(in alloc; "item \"{name}\": its file cannot be edited as a devicetree")
         }
-        ItemReason::TooLarge { size } => {
-            format!(in alloc; "item \"{name}\": size {size}, expected at most {SIZE_LIMIT}")
+        ItemReason::TooLarge { size } | ItemReason::Short { size, .. } => {
+            format!(in alloc; "item \"{name}\": size {size}")
         }
-        ItemReason::Unaligned { at } => address_detail(alloc, name, at, "8"),
-        ItemReason::KernelBase { at } => address_detail(alloc, name, at, "0x200000"),
-        ItemReason::Short { size, count } => format!(in alloc;
-            "item \"{name}\": size {size}, expected at least its {count} bytes"
-        ),
-        ItemReason::TooManyPages { pages } => format!(in alloc;
-            "with item \"{name}\" the launch has {pages} pages, expected at most {PAGE_LIMIT}"
-        ),
+        ItemReason::Unaligned { at } | ItemReason::KernelBase { at } => {
+            address_detail(alloc, name, at)
+        }
+        ItemReason::TooManyPages { pages } => {
+            format!(in alloc; "with item \"{name}\" the launch has {pages} pages")
+        }
         ItemReason::PastEnd(range) => end_detail(alloc, name, range),
         ItemReason::OutsideRam { range, page } => outside_detail(alloc, name, range, page),
+    }
+}
+
+/// What is expected of an item, where that is said.
+fn item_expected(alloc: Global, reason: &ItemReason) -> Result<String, AllocError>
+    ensures { IfOk result (λ s. string_bytes s ≡ item_expected reason.now) }
+{
+    match *reason {
+        ItemReason::Kernel {
+            fault: ImageFault::Short,
+            ..
+        } => format!(in alloc; "at least 64"),
+        ItemReason::TooLarge { .. } => format!(in alloc; "at most {SIZE_LIMIT}"),
+        ItemReason::Unaligned { .. } => format!(in alloc; "a multiple of 8"),
+        ItemReason::KernelBase { .. } => format!(in alloc; "a multiple of 0x200000"),
+        ItemReason::Short { count, .. } => format!(in alloc; "at least its {count} bytes"),
+        ItemReason::TooManyPages { .. } => format!(in alloc; "at most {PAGE_LIMIT}"),
+        ItemReason::Kernel {
+            fault: ImageFault::BadMagic,
+            ..
+        }
+        | ItemReason::Edits(_)
+        | ItemReason::PastEnd(_)
+        | ItemReason::OutsideRam { .. } => format!(in alloc; ""),
     }
 }
 
@@ -164,10 +183,7 @@ fn layout_detail(
     match reason {
         LayoutReason::Item { item, reason } => item_detail(alloc, launch.item_name(*item), reason),
         LayoutReason::Overlap { first, second } => pair_text(alloc, launch, *first, *second),
-        LayoutReason::InitrdWindow { kernel, initrd } => {
-            let pair = pair_text(alloc, launch, *kernel, *initrd)?;
-            format!(in alloc; "{pair}, expected within 32 GiB")
-        }
+        LayoutReason::InitrdWindow { kernel, initrd } => pair_text(alloc, launch, *kernel, *initrd),
     }
 }
 
@@ -252,9 +268,7 @@ fn list_detail(
         (λ s. string_bytes s ≡ list_detail (item_name launch.now) config.now reason.now) }
 {
     match reason {
-        ListReason::TooManyRecs { count } => {
-            format!(in alloc; "{count} RECs, expected at most {REC_LIMIT}")
-        }
+        ListReason::TooManyRecs { count } => { format!(in alloc; "{count} RECs") }
         ListReason::Opening => {
             let pool = pool_text(alloc, config)?;
             format!(in alloc; "the start tables and the realm descriptor: {pool}")
@@ -267,7 +281,7 @@ fn list_detail(
     }
 }
 
-/// Why a launch is refused, with a colon before it.
+/// Why a launch is refused.
 pub(crate) fn reason_detail(
     alloc: Global,
     launch: &NamedLaunch,
@@ -275,11 +289,31 @@ pub(crate) fn reason_detail(
     reason: &LaunchReason,
 ) -> Result<String, AllocError>
     ensures { IfOk result (λ s. string_bytes s
-        ≡ codes ": " ++ reason_detail (item_name launch.now) config.now reason.now) }
+        ≡ reason_detail (item_name launch.now) config.now reason.now) }
 {
-    let detail = match reason {
-        LaunchReason::Layout(reason) => layout_detail(alloc, launch, reason)?,
-        LaunchReason::List { reason, .. } => list_detail(alloc, launch, config, reason)?,
-    };
-    format!(in alloc; ": {detail}")
+    match reason {
+        LaunchReason::Layout(reason) => layout_detail(alloc, launch, reason),
+        LaunchReason::List { reason, .. } => list_detail(alloc, launch, config, reason),
+    }
+}
+
+/// What is expected of a launch, where that is said.
+pub(crate) fn reason_expected(alloc: Global, reason: &LaunchReason) -> Result<String, AllocError>
+    ensures { IfOk result (λ s. string_bytes s ≡ reason_expected reason.now) }
+{
+    match reason {
+        LaunchReason::Layout(LayoutReason::Item { reason, .. }) => item_expected(alloc, reason),
+        LaunchReason::Layout(LayoutReason::InitrdWindow { .. }) => {
+            format!(in alloc; "within 32 GiB")
+        }
+        LaunchReason::List {
+            reason: ListReason::TooManyRecs { .. },
+            ..
+        } => format!(in alloc; "at most {REC_LIMIT}"),
+        LaunchReason::Layout(LayoutReason::Overlap { .. })
+        | LaunchReason::List {
+            reason: ListReason::Opening | ListReason::Step { .. },
+            ..
+        } => format!(in alloc; ""),
+    }
 }

@@ -1,15 +1,15 @@
 //! What a check of the launches of a release has found.
-ghost use Rattle.std.specs.Prelude.{◌≡◌, IfOk, OnOk, Some, codes};
-ghost use Rattle.rim_check.specs.Explained.{fault_of, pages_detail, pages_said};
-ghost use Rattle.shown_text.specs.Lines.{AddsAll, IsKnown};
+ghost use Rattle.std.specs.Prelude.{◌≡◌, IfOk, OnOk};
+ghost use Rattle.rim_check.specs.Explained.{fault_of, pages_said, pages_saying};
+ghost use Rattle.shown_text.specs.Lines.{AddsAll, Says};
 
 use crate::warnings::Warnings;
 use refusal::NoMemory;
 use rim_manifest::NamedLaunch;
 use rim_pages::{DISTINCT_LIMIT, MeasuredPages, StartFault};
 use rim_unusual::SeenTrees;
-use shown_text::{Line, Remark, push_remark};
-use std::alloc::{AllocError, Global};
+use shown_text::{Line, Remark, Word, push_remark};
+use std::alloc::Global;
 
 /// What is at fault in a release whose manifest is not, and whose files can be read.
 #[derive(Clone, Copy, Debug, PartialEq, Eq)]
@@ -111,29 +111,19 @@ fn push_pages(remarks: &mut Vec<Remark>, count: u128) -> Result<(), NoMemory>
     if count <= u128::from(DISTINCT_LIMIT) {
         return Ok(());
     }
-    let alloc = *remarks.allocator();
-    let before = pages_front(alloc)?;
-    let after = pages_detail(alloc, count)?;
-    push_remark(remarks, before, StartFault::TooManyPages.kind(), after)
+    let remark = pages_remark(*remarks.allocator(), count)?;
+    push_remark(remarks, remark)
 }
 
-/// How that line begins.
-fn pages_front(alloc: Global) -> Result<Line, AllocError>
-    ensures { IfOk result (λ line. IsKnown (Some (codes "manifest: ")) line.text.items) }
+/// How many different measured pages there are, and how many there may be.
+fn pages_remark(alloc: Global, count: u128) -> Result<Remark, NoMemory>
+    ensures { IfOk result (Says (pages_saying count)) }
 {
-    let mut line = Line::new(alloc);
-    line.push_text("manifest: ")?;
-    Ok(line)
-}
-
-/// How many pages there are, and how many there may be, with a colon before it.
-fn pages_detail(alloc: Global, count: u128) -> Result<Line, AllocError>
-    ensures { IfOk result (λ line. IsKnown (Some (pages_detail count)) line.text.items) }
-{
-    let text = format!(in alloc;
-        ": {count} different measured pages, expected at most {DISTINCT_LIMIT}"
-    )?;
-    let mut line = Line::new(alloc);
-    line.push_text(text.as_str())?;
-    Ok(line)
+    let given = format!(in alloc; "{count} different measured pages")?;
+    let expected = format!(in alloc; "at most {DISTINCT_LIMIT}")?;
+    let mut remark = Remark::new(alloc, Word::Fault(StartFault::TooManyPages.kind()));
+    remark.place = Line::of(alloc, "manifest")?;
+    remark.given = Line::of(alloc, given.as_str())?;
+    remark.expected = Line::of(alloc, expected.as_str())?;
+    Ok(remark)
 }

@@ -1,12 +1,12 @@
 //! What a check finds, as JSON.
-ghost use Rattle.std.specs.Prelude.{◌≡◌, ◌++◌, IfOk, codes, false, map};
+ghost use Rattle.std.specs.Prelude.{◌≡◌, ◌++◌, IfOk, codes, false};
 ghost use Rattle.serde_json.specs.View.{view};
 ghost use Rattle.serde_json.specs.Written.{compact_text, has_float};
-ghost use Rattle.rim_check.specs.CheckJson.{check_data, check_json_of, remark_json};
+ghost use Rattle.rim_check.specs.CheckJson.{check_data, check_json_of};
 
 use refusal::NoMemory;
 use serde_json::{Value, json};
-use shown_text::Remark;
+use shown_text::{Remark, remark_values};
 use std::alloc::{AllocError, Global};
 
 /// The faults and the warnings that a check finds, as one JSON object without spaces, and a line feed. Its members are `faults`
@@ -52,25 +52,4 @@ fn check_value(
         "version": 1u64,
         "warnings": warnings,
     })
-}
-
-/// The lines of remarks as texts.
-fn remark_values(alloc: Global, remarks: &[Remark]) -> Result<Vec<Value>, AllocError>
-    ensures { IfOk result (λ values. map view values.items ≡ map remark_json remarks.now) }
-{
-    let mut values = Vec::with_capacity(alloc, remarks.len())?;
-    for remark in remarks {
-        values.push(remark_value(alloc, remark)?)?;
-    }
-    Ok(values)
-}
-
-/// The line of a remark as a text.
-fn remark_value(alloc: Global, remark: &Remark) -> Result<Value, AllocError>
-    ensures { IfOk result (λ v. view v ≡ remark_json remark.now) }
-{
-    let mut line = Vec::new(alloc);
-    remark.push_to(&mut line)?;
-    let text = String::from_utf8_lossy(alloc, &line)?;
-    json!(in alloc; text.as_str())
 }

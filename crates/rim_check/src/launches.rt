@@ -1,23 +1,20 @@
 //! The launches of a release that are refused.
-ghost use Rattle.std.specs.Prelude.{◌≡◌, [], ◌++◌, IfOk, Ok, OnOk, Some, codes, length, true, vec_len};
+ghost use Rattle.std.specs.Prelude.{◌≡◌, [], ◌++◌, IfOk, Ok, OnOk, length, true, vec_len};
 ghost use Rattle.ipa_layout.specs.Files.{bytes_of_files};
-ghost use Rattle.rim_check.specs.Details.{reason_detail};
-ghost use Rattle.rim_check.specs.Explained.{AddsRefusal, IsLaunchCheck, IsRefusalLine, launch_front, refusal_said};
-ghost use Rattle.shown_text.specs.Lines.{AddsLine, IsKnown};
-ghost use Rattle.rim_manifest.specs.Launches.{item_name};
+ghost use Rattle.rim_check.specs.Explained.{IsLaunchCheck, refusal_said};
+ghost use Rattle.shown_text.specs.Lines.{AddsLine, Says};
 ghost use Rattle.rim_check.specs.inside.Found.{AddsFound, AddsNumber, numbers_of};
 ghost use Rattle.rim_pages.specs.Pages.{keys_at};
 
-use crate::detail::reason_detail;
+use crate::detail::{reason_detail, reason_expected};
 use crate::found::{Found, LaunchCheck};
 use crate::mending::mending_of;
 use refusal::NoMemory;
 use rim_accepted::{AcceptedLaunch, LaunchReason, LoadedLaunch, LoadedRelease, accept};
-use rim_launch::Config;
 use rim_manifest::NamedLaunch;
 use rim_unusual::find_unusual;
-use shown_text::{Line, Remark, lines_of, push_remark};
-use std::alloc::{AllocError, Global};
+use shown_text::{Line, Remark, Word, launch_place, push_remark};
+use std::alloc::Global;
 
 /// A remark for each launch that is refused, in the manifest's order: its name, the word of its refusal as the report has
 /// it, and what is at fault. Then one where the release has too many different measured pages, and beside them the warnings of
@@ -75,80 +72,40 @@ fn add_accepted(
     found.warnings.add_all(accepted.launch().number(), &unusual)
 }
 
-/// The line of a launch that is refused for this reason, as `check_launches` has it.
-pub fn refusal_line(
-    alloc: Global,
-    launch: &NamedLaunch,
-    files: &[Vec<u8>],
-    reason: &LaunchReason,
-) -> Result<Vec<u8>, NoMemory>
-    ensures { IfOk result (λ line. IsRefusalLine launch.now reason.now line.items) }
-{
-    let mut remarks = Vec::new(alloc);
-    push_refusal(&mut remarks, launch, files, reason)?;
-    lines_of(alloc, &remarks)
-}
-
-/// Adds the remark on a launch that is refused, with what helps to mend it.
+/// Adds the remark on a launch that is refused.
 fn push_refusal(
     remarks: &mut Vec<Remark>,
     launch: &NamedLaunch,
     files: &[Vec<u8>],
     reason: &LaunchReason,
 ) -> Result<(), NoMemory>
-    ensures { OnOk result (AddsRefusal launch.now reason.now
+    ensures { OnOk result (AddsLine (refusal_said launch.now reason.now)
         remarks.old.items remarks.new.items) }
 {
-    let alloc = *remarks.allocator();
-    let mending = mending_of(launch.launch(), files, reason);
-    let hint = format!(in alloc; "{mending}")?;
-    push_refused(remarks, launch, reason, hint.as_str())
+    let remark = refusal_remark(*remarks.allocator(), launch, files, reason)?;
+    push_remark(remarks, remark)
 }
 
-/// Adds that remark with this hint.
-fn push_refused(
-    remarks: &mut Vec<Remark>,
-    launch: &NamedLaunch,
-    reason: &LaunchReason,
-    hint: &str,
-) -> Result<(), NoMemory>
-    ensures { OnOk result
-        (AddsLine (refusal_said launch.now reason.now hint.now)
-        remarks.old.items remarks.new.items) }
-{
-    let alloc = *remarks.allocator();
-    let before = launch_front(alloc, launch.name())?;
-    let config = launch.launch().config();
-    let after = detail(alloc, launch, &config, reason, hint)?;
-    push_remark(remarks, before, reason.fault().kind(), after)
-}
-
-/// How the line of a launch begins.
-fn launch_front(alloc: Global, name: &str) -> Result<Line, AllocError>
-    ensures { IfOk result (λ line. IsKnown (Some (launch_front name.now)) line.text.items) }
-{
-    let mut line = Line::new(alloc);
-    line.push_text("launch \"")?;
-    line.push_text(name)?;
-    line.push_text("\": ")?;
-    Ok(line)
-}
-
-/// What is at fault, with a colon before it, and what helps to mend it.
-fn detail(
+/// The remark on a launch that is refused for this reason, with what helps to mend it.
+pub fn refusal_remark(
     alloc: Global,
     launch: &NamedLaunch,
-    config: &Config,
+    files: &[Vec<u8>],
     reason: &LaunchReason,
-    hint: &str,
-) -> Result<Line, AllocError>
-    ensures { IfOk result (λ line. IsKnown (Some
-        ((codes ": " ++ reason_detail (item_name launch.now) config.now reason.now) ++ hint.now))
-        line.text.items) }
+) -> Result<Remark, NoMemory>
+    ensures { IfOk result (Says (refusal_said launch.now reason.now)) }
 {
-    let reason = reason_detail(alloc, launch, config, reason)?;
-    let text = format!(in alloc; "{reason}{hint}")?;
-    let mut line = Line::new(alloc);
-    line.push_text(text.as_str())?;
-    Ok(line)
+    let config = launch.launch().config();
+    let given = reason_detail(alloc, launch, &config, reason)?;
+    let expected = reason_expected(alloc, reason)?;
+    let mending = mending_of(launch.launch(), files, reason);
+    let help = format!(in alloc; "{mending}")?;
+    Ok(Remark {
+        place: launch_place(alloc, launch.name(), 0)?,
+        word: Word::Fault(reason.fault().kind()),
+        given: Line::of(alloc, given.as_str())?,
+        expected: Line::of(alloc, expected.as_str())?,
+        help: Line::of(alloc, help.as_str())?,
+        joint: mending.joint(),
+    })
 }

@@ -1,4 +1,4 @@
-//! What is wrong with a manifest and with the launches that it describes: a line for each fault, with its place, what is
+//! What is wrong with a manifest and with the launches that it describes: a remark on each fault, with its place, what is
 //! given and what is expected.
 #![tactic(auto)]
 
@@ -17,7 +17,7 @@ mod warnings;
 
 pub use found::{LaunchCheck, ReleaseFault};
 pub use json::check_json;
-pub use launches::{check_launches, refusal_line};
+pub use launches::{check_launches, refusal_remark};
 pub use manifest::{ManifestCheck, check_manifest};
 pub use marking::{MarkedLine, mark_first};
 pub use rim_accepted::LaunchReason;

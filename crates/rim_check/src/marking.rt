@@ -1,9 +1,5 @@
 //! The line of a manifest's text that has its first fault, with a mark under it.
-use crate::excerpt::take_excerpt;
-use crate::spots::{Manifest, finding_spots};
 use refusal::NoMemory;
-use rim_hints::error_spot;
-use rim_manifest::{Checked, Document};
 use rim_spot::Spot;
 use shown_text::Line;
 use std::alloc::Global;
@@ -19,9 +15,13 @@ pub struct MarkedLine {
     pub mark: Line,
 }
 
-/// The line with the first fault of a manifest; `None` where it has no fault, or the place of that is not known.
-pub fn mark_first(alloc: Global, text: &[u8]) -> Result<Option<MarkedLine>, NoMemory> {
-    let Some(spot) = first_spot(alloc, text)? else {
+/// The line with the first fault of a manifest, which is there as `check_manifest` says; `None` where that is not known.
+pub fn mark_first(
+    alloc: Global,
+    text: &[u8],
+    first: Option<Spot>,
+) -> Result<Option<MarkedLine>, NoMemory> {
+    let Some(spot) = first else {
         return Ok(None);
     };
     let line = text
@@ -31,31 +31,6 @@ pub fn mark_first(alloc: Global, text: &[u8]) -> Result<Option<MarkedLine>, NoMe
         Ok(line) => Ok(Some(marked(alloc, line.trim_end(), spot)?)),
         Err(_) => Ok(None),
     }
-}
-
-/// Where the first fault of a manifest is.
-fn first_spot(alloc: Global, text: &[u8]) -> Result<Option<Spot>, NoMemory> {
-    let document = match Document::read(alloc, text) {
-        Ok(document) => document,
-        Err(error) => {
-            return if error.is_memory() {
-                Err(NoMemory)
-            } else {
-                Ok(error_spot(text, &error))
-            };
-        }
-    };
-    let Checked::Refused(list) = document.check(alloc)? else {
-        return Ok(None);
-    };
-    let excerpt = take_excerpt(alloc, &document, &list)?;
-    let manifest = Manifest {
-        path: "",
-        text,
-        document: &document,
-    };
-    let spots = finding_spots(alloc, &manifest, excerpt.findings.get(..1).unwrap_or(&[]))?;
-    Ok(spots.first().copied().flatten())
 }
 
 /// What is shown of the line of a place, after its number, with a mark under the character there. The mark that some editors put before

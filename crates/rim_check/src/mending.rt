@@ -10,12 +10,13 @@ use rim_launch::{Launch, Region};
 use rmi_list::{ListReason, StepReason};
 use rmm_model::{LEAST_WIDTH, MOST_WIDTH, is_width, protected_end};
 use rtt_plan::PlanFault;
+use shown_text::Joint;
 use std::fmt;
 
 /// How many regions of RAM are shown.
 const MOST_REGIONS: usize = 3;
 
-/// What helps to mend a launch. Printed, it follows the reason; nothing is printed where nothing is known.
+/// What helps to mend a launch. Nothing is printed where nothing is known.
 #[derive(Clone, Copy)]
 pub(crate) enum Mending<'a> {
     Nothing,
@@ -39,43 +40,50 @@ pub(crate) enum Mending<'a> {
     LaterRam(usize),
 }
 
+impl Mending<'_> {
+    /// How a line joins it to the reason: of a devicetree it says why that holds.
+    pub(crate) fn joint(&self) -> Joint {
+        match self {
+            Mending::Devicetree(_) => Joint::Colon,
+            _ => Joint::Semicolon,
+        }
+    }
+}
+
 impl fmt::Display for Mending<'_> {
     fn fmt<W: fmt::Write>(&self, f: &mut fmt::Formatter<W>) -> fmt::Result {
         match *self {
             Mending::Nothing => Ok(()),
-            Mending::Kernel(front) => write!(f, "; {front}"),
-            Mending::Devicetree(fault) => {
-                let why = devicetree_text(fault);
-                write!(f, ": {why}")
-            }
+            Mending::Kernel(front) => write!(f, "{front}"),
+            Mending::Devicetree(fault) => f.write_str(devicetree_text(fault)),
             Mending::Ram(regions) => write_ram(f, regions),
             Mending::Width {
                 given,
                 least: Some(least),
             } => write!(
                 f,
-                "; s2sz is {given}, and {least} is the least that holds the RAM"
+                "s2sz is {given}, and {least} is the least that holds the RAM"
             ),
             Mending::Width { given, least: None } => write!(
                 f,
-                "; s2sz is {given}, and none holds the RAM: the most is {MOST_WIDTH}"
+                "s2sz is {given}, and none holds the RAM: the most is {MOST_WIDTH}"
             ),
-            Mending::Granules(count) => write!(f, "; the launch takes {count} in all"),
+            Mending::Granules(count) => write!(f, "the launch takes {count} in all"),
             Mending::SharedPage { page, next } => write!(
                 f,
-                "; both have bytes in the page {page:#x}, and the next one begins at {next:#x}"
+                "both have bytes in the page {page:#x}, and the next one begins at {next:#x}"
             ),
             Mending::WholePages => write!(
                 f,
-                "; a region is from a multiple of {GRANULE_SIZE:#x} to another"
+                "a region is from a multiple of {GRANULE_SIZE:#x} to another"
             ),
             Mending::NextRec(number) => {
                 let next = Part::Rec(number);
-                write!(f, "; \"{next}\" comes next")
+                write!(f, "\"{next}\" comes next")
             }
             Mending::LaterRam(number) => {
                 let later = Part::Ram(number);
-                write!(f, "; the step \"{later}\" has it, and comes later")
+                write!(f, "the step \"{later}\" has it, and comes later")
             }
         }
     }
@@ -105,9 +113,9 @@ fn devicetree_text(fault: FdtFault) -> &'static str {
 /// Writes which RAM there is: some regions, and how many others.
 fn write_ram<W: fmt::Write>(f: &mut fmt::Formatter<W>, regions: &[Region]) -> fmt::Result {
     if regions.is_empty() {
-        return f.write_str("; the launch has no ram");
+        return f.write_str("the launch has no ram");
     }
-    f.write_str("; ram is ")?;
+    f.write_str("ram is ")?;
     for (number, region) in regions.iter().take(MOST_REGIONS).enumerate() {
         let comma = if number == 0 { "" } else { ", " };
         let Region { base, end } = *region;

@@ -3,21 +3,19 @@ ghost use Rattle.std.specs.Prelude.{◌<◌, OnOk};
 ghost use Rattle.shown_text.specs.Lines.{AddsAll, AddsLine};
 ghost use Rattle.rim_check.specs.Warned.{more_said, warning_said};
 
-use itoa::Buffer;
 use refusal::NoMemory;
 use rim_manifest::NamedLaunch;
 use rim_unusual::Unusual;
-use shown_text::{Line, Remark, push_remark};
+use shown_text::{Line, Remark, Word, launch_place, push_remark};
 use std::alloc::Global;
-use std::fmt::Write;
 
 /// The most warnings that have a line: 200. How many more there are is said in one line. This project's choice.
 const WARNING_LIMIT: usize = 200;
 
-/// What a warning says, the number of the first launch that it is about, and how many others have the same.
+/// What a warning says, without its place; the number of the first launch that it is about, and how many others have the same.
 #[derive(Drop)]
 pub struct Warning {
-    text: Line,
+    said: Remark,
     launch: usize,
     others: usize,
 }
@@ -59,23 +57,21 @@ impl Warnings {
     fn add(&mut self, launch: usize, unusual: &Unusual<'_>) -> Result<(), NoMemory>
         ensures { OnOk result (AddsNumber launch (numbers_of self.old) (numbers_of self.new)) }
     {
-        let alloc = *self.found.allocator();
-        let mut text = Line::new(alloc);
-        write!(text, "{unusual}").map_err(|_| NoMemory)?;
-        match self.position(&text) {
+        let said = unusual.remark(*self.found.allocator())?;
+        match self.position(&said) {
             Some(at) => self.count_other(at),
-            None => self.push(launch, text)?,
+            None => self.push(launch, said)?,
         }
         Ok(())
     }
 
-    /// Where the warning with this text is.
-    fn position(&self, text: &Line) -> Option<usize>
+    /// Where the warning is that says the same.
+    fn position(&self, said: &Remark) -> Option<usize>
         ensures { IfSome result (λ at. at < length self.now.found.items) }
     {
         self.found
             .iter()
-            .position(|warning| warning.text.as_slice() == text.as_slice())
+            .position(|warning| is_same(&warning.said, said))
     }
 
     /// Counts one more launch that has the warning at a place.
@@ -88,7 +84,7 @@ impl Warnings {
     }
 
     /// Adds a warning that no launch has had.
-    fn push(&mut self, launch: usize, text: Line) -> Result<(), NoMemory>
+    fn push(&mut self, launch: usize, said: Remark) -> Result<(), NoMemory>
         ensures { OnOk result (AddsNumber launch (numbers_of self.old) (numbers_of self.new)) }
     {
         if self.found.len() >= WARNING_LIMIT {
@@ -96,7 +92,7 @@ impl Warnings {
             return Ok(());
         }
         self.found.push(Warning {
-            text,
+            said,
             launch,
             others: 0,
         })?;
@@ -122,28 +118,26 @@ impl Warnings {
     }
 }
 
-/// Adds the remark of a warning about a launch of this name, and how many others have the same.
-fn push_warning(remarks: &mut Vec<Remark>, name: &str, warning: &Warning) -> Result<(), NoMemory>
-    ensures { OnOk result (AddsLine (warning_said name.now) remarks.old.items remarks.new.items) }
-{
-    let alloc = *remarks.allocator();
-    let mut before = Line::new(alloc);
-    before.push_text("warning: launch \"")?;
-    let after = warning_end(alloc, warning)?;
-    push_remark(remarks, before, name, after)
+/// Whether two remarks say the same of their places.
+fn is_same(one: &Remark, other: &Remark) -> bool {
+    one.given.as_slice() == other.given.as_slice()
+        && one.expected.as_slice() == other.expected.as_slice()
+        && one.help.as_slice() == other.help.as_slice()
 }
 
-/// How its line ends.
-fn warning_end(alloc: Global, warning: &Warning) -> Result<Line, NoMemory> {
-    let mut line = Line::new(alloc);
-    match warning.others {
-        0 => write!(line, "\": "),
-        1 => write!(line, "\" and 1 other: "),
-        others => write!(line, "\" and {others} others: "),
-    }
-    .map_err(|_| NoMemory)?;
-    line.append(&warning.text)?;
-    Ok(line)
+/// Adds the remark of a warning about a launch of this name, and how many others have the same.
+fn push_warning(remarks: &mut Vec<Remark>, name: &str, warning: &Warning) -> Result<(), NoMemory>
+    ensures { OnOk result (AddsLine (warning_said name.now warning.now.others)
+        remarks.old.items remarks.new.items) }
+{
+    let alloc = *remarks.allocator();
+    let mut remark = Remark::new(alloc, Word::Warning);
+    remark.place = launch_place(alloc, name, warning.others)?;
+    remark.given.append(&warning.said.given)?;
+    remark.expected.append(&warning.said.expected)?;
+    remark.help.append(&warning.said.help)?;
+    remark.joint = warning.said.joint;
+    push_remark(remarks, remark)
 }
 
 /// Adds a remark that says how many warnings have none.
@@ -152,9 +146,8 @@ fn push_more(remarks: &mut Vec<Remark>, more: usize) -> Result<(), NoMemory>
     ensures { OnOk result (AddsAll (more_said more) remarks.old.items remarks.new.items) }
 {
     let alloc = *remarks.allocator();
-    let mut before = Line::new(alloc);
-    before.push_text("warning: ")?;
-    let mut after = Line::new(alloc);
-    after.push_text(" more")?;
-    push_remark(remarks, before, Buffer::new().format(more), after)
+    let place = format!(in alloc; "{more} more")?;
+    let mut remark = Remark::new(alloc, Word::Warning);
+    remark.place = Line::of(alloc, place.as_str())?;
+    push_remark(remarks, remark)
 }

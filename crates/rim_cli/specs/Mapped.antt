@@ -1,14 +1,16 @@
 -- The map of a launch, and the status. This project's choice.
-use Rattle.std.specs.Prelude.{◌≡◌, ℕ, List, ◌++◌, ⊤, Result, Ok, Err, codes}
+use Rattle.std.specs.Prelude.{◌≡◌, ℕ, List, ⊤, Result, Ok, Err}
 use Rattle.ipa_layout.specs.Layout.{PlacedData}
 use Rattle.rim_manifest.specs.Launches.{NamedData}
 use Rattle.rim_accepted.specs.Accepted.{accepted_of}
 use Rattle.rim_accepted.specs.declared.audit_fault.AuditFault.{AuditFault}
 use Rattle.rim_accepted.specs.Reasons.{IsRefusedFor}
 use Rattle.rim_accepted.specs.declared.reason.LaunchReason.{LaunchReason}
-use Rattle.rim_check.specs.Explained.{IsRefusalLine}
+use Rattle.rim_check.specs.Explained.{refusal_said}
 use Rattle.rim_map.specs.MapJson.{IsMap}
-use Rattle.rim_map.specs.RefusedMap.{EndsWithLine, IsRefusedMap}
+use Rattle.rim_map.specs.RefusedMap.{EndsWithRemark, IsRefusedMap}
+use Rattle.shown_text.specs.Lines.{Says}
+use Rattle.shown_text.specs.declared.remark.Remark.{Remark}
 use Rattle.rim_words.specs.declared.words.Format.{Format}
 use Rattle.rim_words.specs.declared.words.Format.TheVariants as format
 
@@ -17,18 +19,18 @@ abbrev pub ShowsPlaced : Format → List (List ℕ) → NamedData → List (List
 ShowsPlaced format.Text paths l files p text = ⊤
 ShowsPlaced format.Json paths l files p text = IsMap paths l files p text
 
--- the map of a launch that is refused for a reason shows this line: as its last one, or as JSON, of which all is known
-abbrev pub ShowsRefusal : Format → List (List ℕ) → NamedData → List (List ℕ) → LaunchReason → List ℕ → List ℕ → Type 0
-ShowsRefusal format.Text paths l files why line text = EndsWithLine (line ++ codes "\n") text
-ShowsRefusal format.Json paths l files why line text = IsRefusedMap paths l files why line text
+-- the map of a launch that is refused for a reason shows this remark: in its last line, or as JSON, of which all is known
+abbrev pub ShowsRefusal : Format → List (List ℕ) → NamedData → List (List ℕ) → LaunchReason → Remark → List ℕ → Type 0
+ShowsRefusal format.Text paths l files why remark text = EndsWithRemark remark text
+ShowsRefusal format.Json paths l files why remark text = IsRefusedMap paths l files why remark text
 
--- the map of a launch that is refused: it shows the line in which a check says why
+-- the map of a launch that is refused: it shows the remark in which a check says why
 pub record IsRefusedMapOf (format : Format) (paths : List (List ℕ)) (l : NamedData) (files : List (List ℕ)) (text : List ℕ) : Type 0 where
   pub why : LaunchReason
   pub refused : IsRefusedFor l.launch files why
-  pub line : List ℕ
-  pub says : IsRefusalLine l why (line ++ codes "\n")
-  pub shown : ShowsRefusal format paths l files why line text
+  pub remark : Remark
+  pub says : Says (refusal_said l why) remark
+  pub shown : ShowsRefusal format paths l files why remark text
 
 -- the status is 0 where the launch is accepted, and 1 where it is refused; and this is its map
 abbrev pub IsMapBy : Format → List (List ℕ) → NamedData → List (List ℕ) → Result PlacedData AuditFault → List ℕ → ℕ → Type 0

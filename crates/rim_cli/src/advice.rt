@@ -3,7 +3,7 @@
 use crate::checking::{check, failure_text};
 use crate::file::{Opener, Unread, read_or_why};
 use refusal::NoMemory;
-use rim_check::{MarkedLine, Nearest, mark_first};
+use rim_check::{MarkedLine, Nearest};
 use rim_release::{Release, read_manifest};
 use rim_words::{Ask, Format, ManifestAsk, Request};
 use shown_text::{Line, Quoted};
@@ -11,10 +11,16 @@ use std::alloc::Global;
 use std::fmt::Write as _;
 use std::io::Write;
 
-/// Writes what helps after a run for this request that ended with status 3. The files are read again, and nothing is written where
-/// none of them is at fault.
-pub fn advise<O: Opener, E: Write>(alloc: Global, request: &Request, opener: &mut O, err: &mut E) {
-    let Ok(advice) = advice(alloc, opener, request) else {
+/// Writes what helps after a run for this request that ended with status 3: what its check has marked, or else what is found where the
+/// files are read again. Nothing is written where none of them is at fault.
+pub fn advise<O: Opener, E: Write>(
+    alloc: Global,
+    request: &Request,
+    mark: Option<MarkedLine>,
+    opener: &mut O,
+    err: &mut E,
+) {
+    let Ok(advice) = advice(alloc, opener, request, mark) else {
         return;
     };
     for line in [&advice.text, &advice.mark] {
@@ -31,38 +37,18 @@ fn advice<O: Opener>(
     alloc: Global,
     opener: &mut O,
     request: &Request,
+    mark: Option<MarkedLine>,
 ) -> Result<MarkedLine, NoMemory> {
-    match request.ask {
-        Ask::Manifest(ManifestAsk::Check { .. }) => check_advice(alloc, opener, request.path),
-        _ => Ok(MarkedLine {
+    match mark {
+        Some(mark) => Ok(mark),
+        None => Ok(MarkedLine {
             text: advice_line(alloc, opener, request)?,
             mark: Line::new(alloc),
         }),
     }
 }
 
-/// The line of a manifest that has its first fault, or why it cannot be read.
-fn check_advice<O: Opener>(
-    alloc: Global,
-    opener: &mut O,
-    manifest: &str,
-) -> Result<MarkedLine, NoMemory> {
-    let mut marked = None;
-    let mut text = Line::new(alloc);
-    match read_or_why(alloc, opener, manifest) {
-        Ok(bytes) => marked = mark_first(alloc, bytes.as_slice())?,
-        Err(why) => text = file_advice(alloc, manifest, why)?,
-    }
-    match marked {
-        Some(marked) => Ok(marked),
-        None => Ok(MarkedLine {
-            text,
-            mark: Line::new(alloc),
-        }),
-    }
-}
-
-/// The line that helps where what is asked for is no check.
+/// The line that helps where nothing is marked.
 fn advice_line<O: Opener>(
     alloc: Global,
     opener: &mut O,
@@ -70,12 +56,14 @@ fn advice_line<O: Opener>(
 ) -> Result<Line, NoMemory> {
     let path = request.path;
     match request.ask {
+        Ask::Manifest(ManifestAsk::Check { .. }) | Ask::File(_) => {
+            match read_or_why(alloc, opener, path) {
+                Ok(_) => Ok(Line::new(alloc)),
+                Err(why) => file_advice(alloc, path, why),
+            }
+        }
         Ask::Manifest(_) => manifest_advice(alloc, opener, path, None),
         Ask::Launch { launch, .. } => manifest_advice(alloc, opener, path, Some(launch)),
-        Ask::File(_) => match read_or_why(alloc, opener, path) {
-            Ok(_) => Ok(Line::new(alloc)),
-            Err(why) => file_advice(alloc, path, why),
-        },
     }
 }
 
@@ -95,7 +83,7 @@ fn manifest_advice<O: Opener>(
             return launch_advice(alloc, manifest, launch, &release);
         }
     }
-    match check(alloc, opener, manifest, true, Format::Text) {
+    match check(alloc, opener, manifest, true, Format::Text, &mut None) {
         Ok(answer) if answer.status != 0 => check_line(alloc, manifest),
         _ => Ok(Line::new(alloc)),
     }
@@ -107,6 +95,7 @@ fn file_advice(alloc: Global, path: &str, why: Unread) -> Result<Line, NoMemory>
     let mut line = Line::new(alloc);
     if !text.is_empty() {
         line.push_path(path)?;
+        line.push_text(": ")?;
         line.push_text(text.as_str())?;
     }
     Ok(line)

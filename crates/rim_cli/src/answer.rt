@@ -16,6 +16,7 @@ use crate::found::{read_launch, read_release};
 use crate::freed::keep_freed_memory;
 use crate::mapping::map;
 use crate::replaying::replay;
+use rim_check::MarkedLine;
 use rim_release::{
     Files, Gate, Lanes, LoadedRelease, Outcome, Release, Report, StartFault, audit_with_gate,
     json_report, listing_or_refusal, measure_release, placed_devicetree, show_fdt, show_image,
@@ -35,13 +36,14 @@ pub struct Answer {
     pub status: u8,
 }
 
-/// The answer to a request, or the first fault. The gate is called by workers, and by an audit.
+/// The answer to a request, or the first fault. The gate is called by workers, and by an audit. `mark` becomes what a check marks.
 pub fn answer_to<R: Threads + Wait + Sync, G: Gate + Sync, O: Opener>(
     rt: &R,
     alloc: Global,
     gate: &mut G,
     request: Request,
     opener: &mut O,
+    mark: &mut Option<MarkedLine>,
 ) -> Result<Answer, Fault>
     requires { HasCrew request.ask }
     ensures answered { IfOk result (λ a. IfFile (O.held opener.old request.entry.path.now)
@@ -53,7 +55,7 @@ pub fn answer_to<R: Threads + Wait + Sync, G: Gate + Sync, O: Opener>(
 {
     let path = request.path;
     match request.ask {
-        Ask::Manifest(ask) => manifest_answer(rt, alloc, gate, opener, path, ask),
+        Ask::Manifest(ask) => manifest_answer(rt, alloc, gate, opener, path, ask, mark),
         Ask::Launch { launch, ask } => {
             launch_answer(alloc, gate.lanes(), opener, path, launch, ask)
         }
@@ -69,6 +71,7 @@ fn manifest_answer<R: Threads + Wait + Sync, G: Gate + Sync, O: Opener>(
     opener: &mut O,
     path: &str,
     ask: ManifestAsk,
+    mark: &mut Option<MarkedLine>,
 ) -> Result<Answer, Fault>
     requires { HasCrew (Ask.Manifest ask) }
     ensures answered { IfOk result (λ a. IfFile (O.held opener.old path.now)
@@ -83,7 +86,7 @@ fn manifest_answer<R: Threads + Wait + Sync, G: Gate + Sync, O: Opener>(
             measure(rt, alloc, gate, opener, path, workers, format)
         }
         ManifestAsk::Audit => audit(alloc, gate, opener, path),
-        ManifestAsk::Check { quiet, format } => check(alloc, opener, path, quiet, format),
+        ManifestAsk::Check { quiet, format } => check(alloc, opener, path, quiet, format, mark),
     }
 }
 

@@ -10,8 +10,8 @@ use crate::fault::Fault;
 use crate::file::{FILE_LIMIT, Opener, Unread, read_file, read_or_why};
 use refusal::NoMemory;
 use rim_check::{
-    LaunchCheck, ManifestCheck, ReleaseFault, Remark, check_json, check_launches, check_manifest,
-    lines_of, push_file,
+    LaunchCheck, ManifestCheck, MarkedLine, ReleaseFault, Remark, check_json, check_launches,
+    check_manifest, lines_of, mark_first, push_file,
 };
 use rim_release::{Files, LoadedRelease, Release};
 use rim_words::Format;
@@ -26,13 +26,15 @@ pub struct Checked {
     pub status: u8,
 }
 
-/// What is wrong with the manifest at a path; or else with the files and the launches of its release.
+/// What is wrong with the manifest at a path; or else with the files and the launches of its release. `mark` becomes the line of the
+/// manifest that has its first fault.
 pub fn check<O: Opener>(
     alloc: Global,
     opener: &mut O,
     path: &str,
     quiet: bool,
     format: Format,
+    mark: &mut Option<MarkedLine>,
 ) -> Result<Answer, Fault>
     ensures answered { IfOk result (λ a. IfFile (O.held opener.old path.now)
         (λ bytes. IsCheckIn format (O.held opener.old) quiet path.now bytes a.text.items
@@ -40,7 +42,7 @@ pub fn check<O: Opener>(
     ensures refused { IfErr result (IsFileFault (O.held opener.old path.now)) }
     ensures status { IfOk result (λ a. (a.status ≤ 1) ⊎ (a.status ≡ 3)) }
 {
-    let found = check_path(alloc, opener, path, quiet)?;
+    let found = check_path(alloc, opener, path, quiet, mark)?;
     answer_in(alloc, found, format)
 }
 
@@ -81,6 +83,7 @@ fn check_path<O: Opener>(
     opener: &mut O,
     path: &str,
     quiet: bool,
+    mark: &mut Option<MarkedLine>,
 ) -> Result<Checked, Fault>
     ensures found { IfOk result (λ c. IfFile (O.held opener.old path.now)
         (λ bytes. Finds (O.held opener.old) quiet path.now bytes (findings_of c) c.status)) }
@@ -89,7 +92,12 @@ fn check_path<O: Opener>(
 {
     let bytes = read_file(alloc, opener, path)?;
     match check_manifest(alloc, path, bytes.as_slice()) {
-        Ok(ManifestCheck::Faulty(faults)) => Ok(at_fault(alloc, faults)),
+        Ok(ManifestCheck::Faulty(faults, first)) => {
+            if let Ok(marked) = mark_first(alloc, bytes.as_slice(), first) {
+                *mark = marked;
+            }
+            Ok(at_fault(alloc, faults))
+        }
         Ok(ManifestCheck::Readable(release)) => check_release(alloc, opener, &release, quiet),
         Err(_) => Err(Fault::NoMemory),
     }
@@ -216,7 +224,7 @@ fn push_remark(
     push_file(unread, path, fault.kind(), hint.as_str())
 }
 
-/// What is known of a file that cannot be read, after a colon.
+/// What is known of a file that cannot be read.
 pub fn failure_text(
     alloc: Global,
     path: &str,
@@ -224,15 +232,15 @@ pub fn failure_text(
     failure: Option<ErrorKind>,
 ) -> Result<String, AllocError> {
     match (fault, failure) {
-        (Fault::FileTooLarge, _) => format!(in alloc; ": it has more than {FILE_LIMIT} bytes"),
+        (Fault::FileTooLarge, _) => format!(in alloc; "it has more than {FILE_LIMIT} bytes"),
         (_, Some(ErrorKind::NotFound)) if path.starts_with('/') => {
-            format!(in alloc; ": there is no such file")
+            format!(in alloc; "there is no such file")
         }
         (_, Some(ErrorKind::NotFound)) => {
-            format!(in alloc; ": there is no such file in the folder where rim runs")
+            format!(in alloc; "there is no such file in the folder where rim runs")
         }
-        (_, Some(ErrorKind::IsADirectory)) => format!(in alloc; ": it is a directory"),
-        (_, Some(failure)) => format!(in alloc; ": {failure}"),
+        (_, Some(ErrorKind::IsADirectory)) => format!(in alloc; "it is a directory"),
+        (_, Some(failure)) => format!(in alloc; "{failure}"),
         (_, None) => format!(in alloc; ""),
     }
 }

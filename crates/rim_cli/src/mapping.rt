@@ -3,7 +3,9 @@ ghost use Rattle.std.specs.Prelude.{◌≡◌, ◌<◌, ◌≤◌, ◌++◌, ℕ
 ghost use Rattle.rim_cli.specs.Done.{IsMapped, RefusesListing, RefusesManifest};
 ghost use Rattle.rim_cli.specs.Files.{IfFile};
 ghost use Rattle.rim_cli.specs.Mapped.{IsMapOf, ShowsPlaced, ShowsRefusal};
-ghost use Rattle.rim_check.specs.Explained.{IsRefusalLine};
+ghost use Rattle.rim_check.specs.Explained.{refusal_said};
+ghost use Rattle.shown_text.specs.Lines.{Says};
+ghost use Rattle.shown_text.specs.declared.remark.Remark.{Remark};
 ghost use Rattle.ipa_layout.specs.Files.{bytes_of_files};
 ghost use Rattle.rim_manifest.specs.Manifest.{manifest_of};
 
@@ -13,7 +15,7 @@ use crate::file::Opener;
 use crate::found::read_launch;
 use refusal::NoMemory;
 use rim_accepted::{LaunchReason, ListedLaunch, LoadedLaunch, accept_with_list};
-use rim_check::refusal_line;
+use rim_check::refusal_remark;
 use rim_manifest::Release;
 use rim_map::{RefusedLaunch, map_json, map_text, refused_json, refused_text};
 use rim_words::Format;
@@ -89,18 +91,18 @@ fn refused_map(
     reason: &LaunchReason,
     format: Format,
 ) -> Result<Vec<u8>, NoMemory>
-    ensures { IfOk result (λ text. (line : List ℕ)
-        × IsRefusalLine loaded.entry.launch.now reason.now (line ++ codes "\n")
+    ensures { IfOk result (λ text. (remark : Remark)
+        × Says (refusal_said loaded.entry.launch.now reason.now) remark
         × ShowsRefusal format release.now.paths loaded.entry.launch.now
-        (bytes_of_files loaded.entry.files.now) reason.now line text.items) }
+        (bytes_of_files loaded.entry.files.now) reason.now remark text.items) }
 {
     let LoadedLaunch { launch, files } = loaded;
-    let line = refusal_line(alloc, launch, files, reason)?;
+    let remark = refusal_remark(alloc, launch, files, reason)?;
     let refused = RefusedLaunch {
         launch,
         files,
         reason,
-        line: &line,
+        remark: &remark,
     };
     match format {
         Format::Text => refused_text(alloc, release, &refused),

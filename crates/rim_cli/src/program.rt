@@ -13,6 +13,7 @@ use crate::answer::answer_to;
 use crate::fault::Fault;
 use crate::file::Opener;
 use clap::error::ErrorKind as UsageKind;
+use rim_check::MarkedLine;
 use rim_release::Gate;
 use rim_words::{Ask, CommandFault, LaunchAsk, Request, command};
 use shown_text::Line;
@@ -85,20 +86,22 @@ pub fn run<R: Threads + Wait + Sync, G: Gate + Sync, S: AsStr, O: Opener, W: Wri
     if terminals.out && is_for_bytes(&request.ask) {
         return report_fault(Fault::OutputIsTerminal, err);
     }
-    let status = run_request(rt, alloc, gate, request, opener, out, err);
+    let mut mark = None;
+    let status = run_request(rt, alloc, gate, request, opener, &mut mark, out, err);
     if terminals.err && status == FAULT {
-        advise(alloc, &request, opener, err);
+        advise(alloc, &request, mark, opener, err);
     }
     status
 }
 
-/// Answers a request, and writes the text or the line of a fault.
+/// Answers a request, and writes the text or the line of a fault. `mark` becomes what a check marks.
 fn run_request<R: Threads + Wait + Sync, G: Gate + Sync, O: Opener, W: Write, E: Write>(
     rt: &R,
     alloc: Global,
     gate: &mut G,
     request: Request,
     opener: &mut O,
+    mark: &mut Option<MarkedLine>,
     out: &mut W,
     err: &mut E,
 ) -> u8
@@ -110,7 +113,7 @@ fn run_request<R: Threads + Wait + Sync, G: Gate + Sync, O: Opener, W: Write, E:
         (out.new ≡ out.old) (W.contents out.old) (W.contents out.new) result }
     ensures kept { result ≡ 4 → out.new ≡ out.old }
 {
-    match answer_to(rt, alloc, gate, request, opener) {
+    match answer_to(rt, alloc, gate, request, opener, mark) {
         Ok(answer) => finish(answer.text.as_slice(), answer.status, out, err),
         Err(fault) => report_fault(fault, err),
     }

@@ -1,2 +1,2 @@
--- what is before the word of a fault is its table and its key
+-- the place of a fault is its table and its key
 pub mod TableWithKey

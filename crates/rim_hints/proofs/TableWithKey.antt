@@ -1,9 +1,9 @@
--- What is before a fault's word: a table, and then its key.
-use Rattle.std.proofs.Common.{◌≡◌, ◌∙◌, ◌++◌, List, ℕ, Option, Some, None, ap}
+-- The place of a fault: a table, and then its key.
+use Rattle.std.proofs.Common.{◌≡◌, ◌∙◌, List, ℕ, Option, Some, None, ap}
 use Rattle.std.specs.Prelude.{IfSome, option_map}
 
--- a table with its key
-pub placed : (table : Option (List ℕ)) (bytes text own : List ℕ) → IfSome table (λ known. bytes ≡ known) → text ≡ bytes ++ own
-    → IfSome (option_map (λ known. known ++ own) table) (λ known. text ≡ known)
-placed None bytes text own same is = tt
-placed (Some known) bytes text own same is = is ∙ ap (λ (front : List ℕ). front ++ own) same
+-- what is made of the text of a table is made of what is known of it
+pub placed : (table : Option (List ℕ)) (shown : List ℕ → List ℕ) (bytes text : List ℕ) → IfSome table (λ known. bytes ≡ known) → text ≡ shown bytes
+    → IfSome (option_map shown table) (λ known. text ≡ known)
+placed None shown bytes text same is = tt
+placed (Some known) shown bytes text same is = is ∙ ap shown same

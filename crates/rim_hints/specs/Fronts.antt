@@ -1,6 +1,5 @@
--- What is before the word of a manifest's fault in its line: where it is in the text, in the form that compilers have, and its table and its
--- key. This project's choice.
-use Rattle.std.specs.Prelude.{ℕ, ◌++◌, ◌&&◌, ◌==◌, not, nat_le, Bool, List, codes, decimal, length, Option, Some, None, option_and_then, option_map, if◌then◌else◌}
+-- The place of a manifest's fault: where it is in the text, in the form that compilers have, and its table and its key. This project's choice.
+use Rattle.std.specs.Prelude.{ℕ, ◌++◌, ◌&&◌, ◌==◌, not, nat_le, Bool, List, [], codes, decimal, length, Option, Some, None, option_and_then, option_map, if◌then◌else◌}
 use Rattle.std.specs.List.{list_all}
 use Rattle.toml.specs.Data.{Data, Members, get_member, string}
 use Rattle.rim_manifest.specs.Places.{table_at}
@@ -12,8 +11,8 @@ use Rattle.rim_spot.specs.declared.spot.Spot.{Spot}
 
 -- a line and a column, where they are known
 abbrev pub spot_text : Option Spot → List ℕ
-spot_text None = codes ": "
-spot_text (Some spot) = codes ":" ++ (decimal spot.line ++ (codes ":" ++ (decimal spot.column ++ codes ": ")))
+spot_text None = []
+spot_text (Some spot) = codes ":" ++ (decimal spot.line ++ (codes ":" ++ decimal spot.column))
 
 -- a byte that is shown as it is between double quotes
 abbrev pub is_bare : ℕ → Bool
@@ -49,15 +48,13 @@ table_text ms (place.Item launch item) =
     inner_text (named_text (codes "launch") launch (name_at ms (place.Launch launch))) (named_text (codes ", item") item (name_at ms (place.Item launch item)))
 table_text ms (place.Rec launch rec) = inner_text (named_text (codes "launch") launch (name_at ms (place.Launch launch))) (named_text (codes ", rec") rec None)
 
--- what is at fault in the table, with a colon before it and after it
-abbrev pub subject_text : Subject → List ℕ
-subject_text (subject.Key key form) = codes ": " ++ (key.now ++ codes ": ")
-subject_text (subject.Step step) = codes ": steps: "
-subject_text subject.Steps = codes ": steps: "
-subject_text subject.OtherKeys = codes ": "
-subject_text subject.Asked = codes ": "
-subject_text subject.Whole = codes ": "
+-- a table and what is at fault in it, each after a colon
+abbrev pub subject_text : Subject → List ℕ → List ℕ
+subject_text (subject.Key key form) table = codes ": " ++ (table ++ (codes ": " ++ key.now))
+subject_text (subject.Step step) table = codes ": " ++ (table ++ codes ": steps")
+subject_text subject.Steps table = codes ": " ++ (table ++ codes ": steps")
+subject_text _ table = codes ": " ++ table
 
 -- the table and its key
 abbrev pub place_text : Members → Place → Subject → Option (List ℕ)
-place_text ms p s = option_map (λ table. table ++ subject_text s) (table_text ms p)
+place_text ms p s = option_map (subject_text s) (table_text ms p)

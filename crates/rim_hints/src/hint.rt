@@ -5,7 +5,9 @@ use crate::number::{are_word_digits, is_number};
 use rim_launch::Role;
 use rim_rules::form::Form;
 use rim_rules::kind::kind_word;
+use shown_text::{Line, Remark};
 use std::fmt;
+use std::fmt::Write;
 use toml::Value;
 
 /// Other words for kinds, and the kinds.
@@ -33,12 +35,12 @@ const UNITS: [(&str, i64); 9] = [
     ("GiB", 1 << 30),
 ];
 
-/// What helps to mend a value, beside what is expected. Printed, it follows that.
+/// What helps to mend a value, beside what is expected.
 #[derive(Clone, Copy)]
 pub enum Hint<'a> {
     /// Nothing is known.
     Nothing,
-    /// It is right but for its quotes.
+    /// It is right but for its quotes. That is said of what is expected.
     Quotes,
     /// The word that is meant.
     Word(&'static str),
@@ -60,38 +62,37 @@ pub enum Hint<'a> {
     Tables(&'static str),
 }
 
-impl fmt::Display for Hint<'_> {
-    fn fmt<W: fmt::Write>(&self, f: &mut fmt::Formatter<W>) -> fmt::Result {
+impl Hint<'_> {
+    /// Adds it to a remark.
+    pub fn write_to(&self, remark: &mut Remark) -> fmt::Result {
         match *self {
             Hint::Nothing => Ok(()),
-            Hint::Quotes => f.write_str(", written without quotes"),
-            Hint::Word(word) => write!(f, " (write \"{word}\")"),
-            Hint::Bytes(count) => write!(f, " (write {count:#x})"),
-            Hint::WordDigits(digits) => write!(f, " (in hexadecimal digits: \"0x{digits}\")"),
-            Hint::Character(c) => write!(f, " ('{c}' is not allowed)"),
-            Hint::Characters(count) => write!(f, " (it has {count} characters)"),
-            Hint::Digits { count, other } => write_digits(f, count, other),
+            Hint::Quotes => write!(remark.expected, ", written without quotes"),
+            Hint::Word(word) => write!(remark.help, "write \"{word}\""),
+            Hint::Bytes(count) => write!(remark.help, "write {count:#x}"),
+            Hint::WordDigits(digits) => {
+                write!(remark.help, "in hexadecimal digits: \"0x{digits}\"")
+            }
+            Hint::Character(c) => write!(remark.help, "'{c}' is not allowed"),
+            Hint::Characters(count) => write!(remark.help, "it has {count} characters"),
+            Hint::Digits { count, other } => write_digits(&mut remark.help, count, other),
             Hint::Size { base, size, end } => write!(
-                f,
-                " (for {size:#x} bytes from {base:#x}: [{base:#x}, {end:#x}])"
+                remark.help,
+                "for {size:#x} bytes from {base:#x}: [{base:#x}, {end:#x}]"
             ),
-            Hint::Region { base, end } => write!(f, " (write [[{base:#x}, {end:#x}]])"),
+            Hint::Region { base, end } => write!(remark.help, "write [[{base:#x}, {end:#x}]]"),
             Hint::Tables(key) => {
                 let header = Header(key);
-                write!(f, " (write {header})")
+                write!(remark.help, "write {header}")
             }
         }
     }
 }
 
-fn write_digits<W: fmt::Write>(
-    f: &mut fmt::Formatter<W>,
-    count: usize,
-    other: Option<char>,
-) -> fmt::Result {
+fn write_digits(line: &mut Line, count: usize, other: Option<char>) -> fmt::Result {
     match other {
-        Some(c) => write!(f, " (it has {count}, and '{c}' is none)"),
-        None => write!(f, " (it has {count})"),
+        Some(c) => write!(line, "it has {count}, and '{c}' is none"),
+        None => write!(line, "it has {count}"),
     }
 }
 

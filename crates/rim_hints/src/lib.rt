@@ -19,7 +19,7 @@ pub use hint::{element_hint, value_hint};
 pub use nearest::Nearest;
 pub use other_keys::{is_meant, rules_of, write_other_keys};
 pub use part::Part;
-pub use place::{fault_front, place_text, text_at};
+pub use place::{fault_place, place_text, text_at};
 pub use shown::{Shown, bad_element};
 pub use steps::{write_step, write_steps};
 pub use syntax::{error_spot, write_message};

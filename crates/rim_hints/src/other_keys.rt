@@ -92,7 +92,7 @@ pub fn write_other_keys(
             continue;
         }
         if listed < MOST_KEYS {
-            write!(line, "{}", if listed == 0 { ": " } else { ", " })?;
+            write!(line, "{}", if listed == 0 { "" } else { ", " })?;
             write_other_key(alloc, line, document, place, rules, key.as_str())?;
             listed += 1;
         } else {

@@ -34,9 +34,9 @@ pub fn name_at(document: &Document, place: Place) -> Option<&str>
     text_at(document.table(place)?, "name")
 }
 
-/// What is before the word of a fault: the path of a manifest; the line and the column where they are known, each with a colon after it,
-/// in the form that compilers have and editors follow; and the place in the document.
-pub fn fault_front(
+/// The place of a fault: the path of a manifest; the line and the column where they are known, each after a colon, in the form that
+/// compilers have and editors follow; and the place in the document.
+pub fn fault_place(
     alloc: Global,
     path: &str,
     spot: Option<Spot>,
@@ -58,12 +58,12 @@ fn spot_text(alloc: Global, spot: Option<Spot>) -> Result<String, AllocError>
     ensures { IfOk result (λ s. string_bytes s ≡ spot_text spot) }
 {
     match spot {
-        Some(Spot { line, column }) => format!(in alloc; ":{line}:{column}: "),
-        None => format!(in alloc; ": "),
+        Some(Spot { line, column }) => format!(in alloc; ":{line}:{column}"),
+        None => format!(in alloc; ""),
     }
 }
 
-/// The table of a fault and its key, with a colon after them.
+/// The table of a fault and its key, each after a colon.
 pub fn place_text(
     alloc: Global,
     document: &Document,
@@ -75,9 +75,9 @@ pub fn place_text(
 {
     let table = table_text(alloc, document, place)?;
     match subject {
-        Subject::Key { key, .. } => format!(in alloc; "{table}: {key}: "),
-        Subject::Steps | Subject::Step { .. } => format!(in alloc; "{table}: steps: "),
-        Subject::OtherKeys | Subject::Asked | Subject::Whole => format!(in alloc; "{table}: "),
+        Subject::Key { key, .. } => format!(in alloc; ": {table}: {key}"),
+        Subject::Steps | Subject::Step { .. } => format!(in alloc; ": {table}: steps"),
+        Subject::OtherKeys | Subject::Asked | Subject::Whole => format!(in alloc; ": {table}"),
     }
 }
 

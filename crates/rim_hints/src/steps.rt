@@ -4,34 +4,29 @@ use crate::nearest::Nearest;
 use crate::part::{Part, Parts};
 use rim_manifest::{entries, name};
 use rim_rules::kind::StepKind;
-use shown_text::{Line, Quoted};
+use shown_text::{Joint, Line, Quoted, Remark};
 use std::alloc::{AllocError, Global};
 use std::fmt;
 use std::fmt::Write;
 use toml::{Table, Value};
 
-/// Adds a step that names what is not there, or what an earlier step names.
-pub fn write_step(alloc: Global, line: &mut Line, launch: &Table, step: usize) -> fmt::Result {
-    write!(line, ": ")?;
-    write_bad_step(alloc, line, launch, step)
-}
-
 /// Adds steps that are not as many as the parts of their launch: how many, and the first part that has none. Where each has one,
 /// the first step that is one too many.
-pub fn write_steps(alloc: Global, line: &mut Line, launch: &Table) -> fmt::Result {
+pub fn write_steps(alloc: Global, remark: &mut Remark, launch: &Table) -> fmt::Result {
     let parts = Parts::new(launch);
     let steps = entries(launch, "steps");
     let count = steps.len();
     let Parts { regions, recs, .. } = parts;
     let items = parts.items.len();
+    write!(remark.given, "{count} steps")?;
     write!(
-        line,
-        ": {count} steps, \
-         expected one for each of {regions} regions, {items} items and {recs} RECs; "
+        remark.expected,
+        "one for each of {regions} regions, {items} items and {recs} RECs"
     )?;
+    remark.joint = Joint::Semicolon;
     match compare(alloc, parts, steps)? {
-        Miscount::Lacks(part) => write!(line, "there is no step \"{part}\""),
-        Miscount::Extra(step) => write_bad_step(alloc, line, launch, step),
+        Miscount::Lacks(part) => write!(remark.help, "there is no step \"{part}\""),
+        Miscount::Extra(step) => write_step(alloc, &mut remark.help, launch, step),
     }
 }
 
@@ -87,7 +82,7 @@ fn text(step: &Value) -> &str {
 }
 
 /// Adds the step of a number, which names what is not there, or what an earlier step names.
-fn write_bad_step(alloc: Global, line: &mut Line, launch: &Table, step: usize) -> fmt::Result {
+pub fn write_step(alloc: Global, line: &mut Line, launch: &Table, step: usize) -> fmt::Result {
     let steps = entries(launch, "steps");
     let Some(value) = steps.get(step) else {
         return Ok(());

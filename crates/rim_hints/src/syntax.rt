@@ -2,7 +2,7 @@
 use crate::hint::Header;
 use crate::number::is_too_large;
 use rim_spot::{Spot, spot_at};
-use shown_text::{Line, Quoted};
+use shown_text::{Quoted, Remark};
 use std::fmt;
 use std::fmt::Write;
 use toml::de::Error;
@@ -13,22 +13,22 @@ pub fn error_spot(text: &[u8], error: &Error) -> Option<Spot> {
     Some(spot_at(text, span.start))
 }
 
-/// Adds why a text is no document, after a colon.
-pub fn write_message(line: &mut Line, text: &[u8], error: &Error) -> fmt::Result {
+/// Adds why a text is no document.
+pub fn write_message(remark: &mut Remark, text: &[u8], error: &Error) -> fmt::Result {
     let message = error.message();
-    write!(line, ": {message}")?;
+    write!(remark.given, "{message}")?;
     let Some(span) = error.span() else {
         return Ok(());
     };
     let rest = first_line(text.get(span.start..).unwrap_or(&[]));
     if message == "duplicate key" {
-        return write_key(line, rest);
+        return write_key(remark, rest);
     }
     if is_too_large(first_word(rest)) {
         return write!(
-            line,
-            " (a number is at most 9223372036854775807; \
-             pc and x take larger ones as a text \"0x..\")"
+            remark.help,
+            "a number is at most 9223372036854775807; \
+             pc and x take larger ones as a text \"0x..\""
         );
     }
     Ok(())
@@ -49,17 +49,17 @@ fn first_word(text: &str) -> &str {
 }
 
 /// Adds the key that a line begins with, if it is a plain one. The header of one table may be meant as that of one of several.
-fn write_key(line: &mut Line, text: &str) -> fmt::Result {
+fn write_key(remark: &mut Remark, text: &str) -> fmt::Result {
     let Some(key) = key_in(text) else {
         return Ok(());
     };
     let quoted = Quoted(key);
-    write!(line, " {quoted}")?;
+    write!(remark.given, " {quoted}")?;
     let is_single = text.starts_with('[') && !text.starts_with("[[");
     match key.strip_prefix("launch.").unwrap_or(key) {
         "launch" | "file" | "item" | "rec" if is_single => {
             let header = Header(key);
-            write!(line, " (write {header})")
+            write!(remark.help, "write {header}")
         }
         _ => Ok(()),
     }

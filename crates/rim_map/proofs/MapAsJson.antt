@@ -1,8 +1,8 @@
 -- The JSON of a map is made part by part, and has no float.
 use Rattle.std.proofs.Common.{◌≡◌, ◌∙◌, ◌⊎◌, inl, inr, ℕ, false, List, [], ◌∷◌, ◌++◌, codes, length, map, refl, ap, sym, subst, arith}
 use Rattle.std.specs.Prelude.{Option, Some, None}
-use Rattle.std.proofs.lemmas.List.{append-nil, map-append}
-use Rattle.serde_json.specs.Data.{Data, string}
+use Rattle.std.proofs.lemmas.List.{append-nil}
+use Rattle.serde_json.specs.Data.{Data}
 use Rattle.serde_json.specs.View.{items_of}
 use Rattle.serde_json.specs.Written.{compact_text, has_float, items_have_float}
 use Rattle.rim_desc.specs.declared.rule.RecRule.{RecRule}
@@ -14,7 +14,7 @@ use Rattle.rim_manifest.specs.Launches.{NamedData, item_name}
 use Rattle.map_rows.specs.Extensions.{extensions_of}
 use Rattle.map_rows.specs.Granules.{HasGranules}
 use Rattle.map_rows.specs.Rows.{rows_of}
-use Rattle.rim_map.specs.inside.Spaces.{AreTexts, IsSpace}
+use Rattle.rim_map.specs.inside.Spaces.{IsSpace}
 use Rattle.rim_map.specs.MapJson.{IsMap, SpaceView, extensions_json, granules_json, item_json, items_json, launch_json}
 use Rattle.rim_map.specs.MapJson.{map_data, path_json, place_json, region_json, regions_json, rule_json, space_of, stretch_json}
 use Rattle.map_rows.specs.Stretches.{AreRising, gaps_of, row_pages}
@@ -22,6 +22,9 @@ use Rattle.map_rows.specs.declared.extensions.Extensions.{Extensions}
 use Rattle.map_rows.specs.declared.granules.Granules.{Granules}
 use Rattle.map_rows.specs.declared.rows.Row.{Row}
 use Rattle.map_rows.specs.declared.stretches.Stretch.{Stretch}
+use Rattle.shown_text.proofs.RemarksAsJson.{remarks-float}
+use Rattle.shown_text.specs.RemarkJson.{remark_json}
+use Rattle.shown_text.specs.declared.remark.Remark.{Remark}
 
 -- after the last item all were made
 pub items-over : (name : ℕ → List ℕ) (paths : List (List ℕ)) (items : List Item) (rows : List Row) (now all : List Data)
@@ -58,61 +61,49 @@ items-float name paths [] rows = refl
 items-float name paths (item ∷ items) [] = refl
 items-float name paths (item ∷ items) (row ∷ rows) = rw (path-float _) (items-float name paths items rows)
 
-texts-float : (texts : List (List ℕ)) → items_have_float (items_of (map string texts)) ≡ false
-texts-float [] = refl
-texts-float (text ∷ texts) = texts-float texts
-
 -- and no map
 pub no-float : (paths : List (List ℕ)) (l : NamedData) (rows : List Row) (taken between : List Stretch) (granules : Granules) (extensions : Extensions)
-    (texts : List (List ℕ))
-    → has_float (map_data l (space_of paths l rows taken between) granules extensions (map string texts)) ≡ false
+    (warnings : List Remark)
+    → has_float (map_data l (space_of paths l rows taken between) granules extensions (map remark_json warnings)) ≡ false
 unfolding map_data granules_json extensions_json launch_json
-no-float paths l rows taken between granules extensions texts =
+no-float paths l rows taken between granules extensions warnings =
     rw (
       stretches-float between,
       items-float (item_name l) paths l.launch.items rows,
       rule-float l.launch.config.rec_rule,
       regions-float taken l.launch.ram,
-      texts-float texts,
+      remarks-float warnings,
     ) refl
 
 -- ---- the whole text
 
--- one text more
-pub texts-more : (ds : List Data) (d : Data) (text : List ℕ) → AreTexts ds → d ≡ string text → AreTexts (ds ++ d ∷ [])
-texts-more ds d text all is = record {
-  texts = all.texts ++ text ∷ [];
-  are = ap (λ (xs : List Data). xs ++ d ∷ []) all.are ∙ ap (λ (x : Data). map string all.texts ++ x ∷ []) is
-      ∙ sym (map-append string all.texts (text ∷ []));
-}
-
 -- the text of a value that was made of a launch's parts is the launch's map
 pub shown-map : (paths : List (List ℕ)) (l : NamedData) (files : List (List ℕ)) (p : PlacedData) (rows : List Row) (space : SpaceView)
-    (granules : Granules) (extensions : Extensions) (warnings : List Data) (value : Data) (text : List ℕ)
+    (granules : Granules) (extensions : Extensions) (remarks : List Remark) (warnings : List Data) (value : Data) (text : List ℕ)
     → rows ≡ rows_of l.launch files p → IsSpace paths l rows space → HasGranules l.launch p granules
-    → extensions ≡ extensions_of (measured l.launch p (page_contents l.launch files p)) → AreTexts warnings
+    → extensions ≡ extensions_of (measured l.launch p (page_contents l.launch files p)) → warnings ≡ map remark_json remarks
     → value ≡ map_data l space granules extensions warnings → (has_float value ≡ false → text ≡ compact_text value ++ codes "\n")
     → IsMap paths l files p text
-shown-map paths l files p rows space granules extensions warnings value text placed is_space has counted all made shown =
+shown-map paths l files p rows space granules extensions remarks warnings value text placed is_space has counted all made shown =
     record {
       taken = is_space.taken;
       between = is_space.between;
       granules = granules;
-      warnings = all.texts;
+      warnings = remarks;
       rising = subst (λ (rs : List Row). AreRising (map row_pages rs) is_space.taken) placed is_space.rising;
       around = is_space.around;
       counted = has;
-      shown = shown (ap has_float whole ∙ no-float paths l (rows_of l.launch files p) is_space.taken is_space.between granules parts all.texts)
+      shown = shown (ap has_float whole ∙ no-float paths l (rows_of l.launch files p) is_space.taken is_space.between granules parts remarks)
           ∙ ap (λ (v : Data). compact_text v ++ codes "\n") whole;
     }
   where
     parts : Extensions
     parts = extensions_of (measured l.launch p (page_contents l.launch files p))
 
-    whole : value ≡ map_data l (space_of paths l (rows_of l.launch files p) is_space.taken is_space.between) granules parts (map string all.texts)
+    whole : value ≡ map_data l (space_of paths l (rows_of l.launch files p) is_space.taken is_space.between) granules parts (map remark_json remarks)
     whole =
         made
         ∙ ap (λ (s : SpaceView). map_data l s granules extensions warnings)
         (is_space.is ∙ ap (λ (rs : List Row). space_of paths l rs is_space.taken is_space.between) placed)
         ∙ ap (λ (e : Extensions). map_data l (space_of paths l (rows_of l.launch files p) is_space.taken is_space.between) granules e warnings) counted
-        ∙ ap (λ (ds : List Data). map_data l (space_of paths l (rows_of l.launch files p) is_space.taken is_space.between) granules parts ds) all.are
+        ∙ ap (λ (ds : List Data). map_data l (space_of paths l (rows_of l.launch files p) is_space.taken is_space.between) granules parts ds) all

@@ -2,7 +2,6 @@
 use Rattle.std.proofs.Common.{◌≡◌, ◌∙◌, ℕ, ◌+◌, ◌<◌, false, List, [], ◌∷◌, ◌++◌, codes, length, map, refl, ap, sym, subst, take, arith, get_or}
 use Rattle.std.proofs.lemmas.List.{length-take-le, take_more}
 use Rattle.std.specs.Prelude.{Ok, Option, Some, None}
-use Rattle.std.specs.Str.Lossy.{utf8_lossy}
 use Rattle.serde_json.specs.Data.{Data}
 use Rattle.serde_json.specs.View.{items_of}
 use Rattle.serde_json.specs.Written.{compact_text, has_float, items_have_float}
@@ -21,6 +20,7 @@ use Rattle.map_rows.specs.Rows.{rows_of}
 use Rattle.map_rows.specs.Stretches.{AreRising, row_pages}
 use Rattle.rim_map.specs.inside.Spaces.{IsSpace, IsStated}
 use Rattle.map_rows.specs.declared.rows.Row.{Row}
+use Rattle.shown_text.specs.declared.remark.Remark.{Remark}
 use Rattle.rim_map.proofs.MapAsJson.{items-float, path-float, regions-float, rule-float, stretches-float}
 
 -- one item more
@@ -74,10 +74,10 @@ space-float paths l files (Lists p why granules) space shows =
       regions-float shows.0 l.launch.ram,
     )
 
-refused-float : (l : NamedData) (space : SpaceView) (line word : List ℕ) → NoFloats space
-    → has_float (refused_data l space line word) ≡ false
+refused-float : (l : NamedData) (space : SpaceView) (r : Remark) (word : List ℕ) → NoFloats space
+    → has_float (refused_data l space r word) ≡ false
 unfolding refused_data launch_json
-refused-float l space line word none = rw (none.0, none.1, rule-float l.launch.config.rec_rule, none.2) refl
+refused-float l space r word none = rw (none.0, none.1, rule-float l.launch.config.rec_rule, none.2) refl
 
 -- ---- the address space that is shown
 
@@ -101,12 +101,12 @@ shows-stated paths l files why space is_stated = (is_stated.between, is_stated.a
 
 -- the text of a value that was made of a launch's parts is the launch's map
 pub shown-refused : (paths : List (List ℕ)) (l : NamedData) (files : List (List ℕ)) (why : LaunchReason) (space : SpaceView) (value : Data)
-    (line text : List ℕ) → ShowsSpace paths l files why space
-    → value ≡ refused_data l space (utf8_lossy line) (audit_kind_of (audit_fault_of why))
-    → (has_float value ≡ false → text ≡ compact_text value ++ codes "\n") → IsRefusedMap paths l files why line text
-shown-refused paths l files why space value line text shows made shown = record {
+    (r : Remark) (text : List ℕ) → ShowsSpace paths l files why space
+    → value ≡ refused_data l space r (audit_kind_of (audit_fault_of why))
+    → (has_float value ≡ false → text ≡ compact_text value ++ codes "\n") → IsRefusedMap paths l files why r text
+shown-refused paths l files why space value r text shows made shown = record {
   space = space;
   seen = shows;
-  shown = shown (ap has_float made ∙ refused-float l space (utf8_lossy line) (audit_kind_of (audit_fault_of why)) (space-float paths l files why space shows))
+  shown = shown (ap has_float made ∙ refused-float l space r (audit_kind_of (audit_fault_of why)) (space-float paths l files why space shows))
       ∙ ap (λ (v : Data). compact_text v ++ codes "\n") made;
 }

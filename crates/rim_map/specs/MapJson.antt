@@ -24,6 +24,8 @@ use Rattle.map_rows.specs.declared.extensions.Extensions.{Extensions}
 use Rattle.map_rows.specs.declared.granules.Granules.{Granules}
 use Rattle.map_rows.specs.declared.rows.Row.{Row}
 use Rattle.map_rows.specs.declared.stretches.Stretch.{Stretch}
+use Rattle.shown_text.specs.RemarkJson.{remark_json}
+use Rattle.shown_text.specs.declared.remark.Remark.{Remark}
 
 abbrev pub count : ℕ → Data
 count n = number (unsigned n)
@@ -113,14 +115,14 @@ space_of paths l rows taken between = record {
   regions = regions_json taken l.launch.ram;
 }
 
--- A text is the map of a launch that is accepted, with its place, where files have these paths. Its warnings are some lines.
+-- A text is the map of a launch that is accepted, with its place, where files have these paths. Its warnings are the lines of some remarks.
 pub record IsMap (paths : List (List ℕ)) (l : NamedData) (files : List (List ℕ)) (p : PlacedData) (text : List ℕ) : Type 0 where
   pub taken : List Stretch
   pub between : List Stretch
   pub granules : Granules
-  pub warnings : List (List ℕ)
+  pub warnings : List Remark
   pub rising : AreRising (map row_pages (rows_of l.launch files p)) taken
   pub around : IsBetween l.launch.ram between
   pub counted : HasGranules l.launch p granules
   pub shown : text ≡ compact_text (map_data l (space_of paths l (rows_of l.launch files p) taken between) granules
-      (extensions_of (measured l.launch p (page_contents l.launch files p))) (map string warnings)) ++ codes "\n"
+      (extensions_of (measured l.launch p (page_contents l.launch files p))) (map remark_json warnings)) ++ codes "\n"

@@ -1,7 +1,6 @@
 -- The map of a launch that is refused, as lines and as JSON. Members are in the order of their keys. This project's choice.
 use Rattle.std.specs.Prelude.{◌≡◌, ℕ, ◌+◌, true, List, [], ◌∷◌, ◌++◌, codes, map, Option, Some, None, option_and_then}
 use Rattle.std.specs.List.{slice_get}
-use Rattle.std.specs.Str.Lossy.{utf8_lossy}
 use Rattle.serde_json.specs.Data.{Data, array, boolean, member, no_members, null, object, string}
 use Rattle.serde_json.specs.View.{items_of}
 use Rattle.serde_json.specs.Written.{compact_text}
@@ -18,14 +17,17 @@ use Rattle.map_text.specs.Lines.{are_lines}
 use Rattle.map_rows.specs.Rows.{rows_of}
 use Rattle.map_rows.specs.Stretches.{AreRising, IsBetween, row_pages}
 use Rattle.map_rows.specs.declared.stretches.Stretch.{Stretch}
+use Rattle.shown_text.specs.Lines.{line_of}
+use Rattle.shown_text.specs.RemarkJson.{remark_json}
+use Rattle.shown_text.specs.declared.remark.Remark.{Remark}
 
 -- ---- as lines
 
--- a text ends with this line, which has its line feed
-pub record EndsWithLine (line text : List ℕ) : Type 0 where
+-- a text ends with the line of this remark
+pub record EndsWithRemark (r : Remark) (text : List ℕ) : Type 0 where
   pub before : List ℕ
   pub whole : are_lines before ≡ true
-  pub is : text ≡ before ++ line
+  pub is : text ≡ before ++ (line_of r ++ codes "\n")
 
 -- ---- as JSON
 
@@ -67,16 +69,15 @@ ShowsSpace paths l files (Lists p why granules) space = (taken : List Stretch) �
     × AreRising (map row_pages (rows_of l.launch files p)) taken × IsBetween l.launch.ram between
     × (space ≡ space_of paths l (rows_of l.launch files p) taken between)
 
--- the map of a launch that is refused, with the line that says why, and the word of its refusal
-unfoldable pub refused_data : NamedData → SpaceView → List ℕ → List ℕ → Data
-refused_data l space line word =
+-- the map of a launch that is refused, with the remark that says why, and the word of its refusal
+unfoldable pub refused_data : NamedData → SpaceView → Remark → List ℕ → Data
+refused_data l space r word =
     object (member (codes "gaps") (array (items_of space.gaps)) (member (codes "items") (array (items_of space.items))
-    (member (codes "launch") (launch_json l) (member (codes "refusal") (string line) (member (codes "refused") (string word)
+    (member (codes "launch") (launch_json l) (member (codes "refusal") (remark_json r) (member (codes "refused") (string word)
     (member (codes "regions") (array (items_of space.regions)) (member (codes "version") (count 1) no_members)))))))
 
--- A text is the map of a launch that is refused for this reason, where files have these paths, with this line, which has no line feed here.
--- What is no UTF-8 in it is shown as the replacement character.
-pub record IsRefusedMap (paths : List (List ℕ)) (l : NamedData) (files : List (List ℕ)) (why : LaunchReason) (line text : List ℕ) : Type 0 where
+-- A text is the map of a launch that is refused for this reason, where files have these paths, with this remark
+pub record IsRefusedMap (paths : List (List ℕ)) (l : NamedData) (files : List (List ℕ)) (why : LaunchReason) (r : Remark) (text : List ℕ) : Type 0 where
   pub space : SpaceView
   pub seen : ShowsSpace paths l files why space
-  pub shown : text ≡ compact_text (refused_data l space (utf8_lossy line) (audit_kind_of (audit_fault_of why))) ++ codes "\n"
+  pub shown : text ≡ compact_text (refused_data l space r (audit_kind_of (audit_fault_of why))) ++ codes "\n"

@@ -1,13 +1,12 @@
 //! The map of a launch as JSON.
 ghost use Rattle.std.specs.Prelude.{◌≡◌, ◌++◌, IfOk, OnOk, codes, false, map};
-ghost use Rattle.std.specs.Str.Lossy.{utf8_lossy};
-ghost use Rattle.serde_json.specs.Data.{put as with_member, string};
+ghost use Rattle.serde_json.specs.Data.{put as with_member};
 ghost use Rattle.serde_json.specs.View.{members_view, view};
 ghost use Rattle.serde_json.specs.Written.{compact_text, has_float};
 ghost use Rattle.ipa_layout.specs.Files.{bytes_of_files};
 ghost use Rattle.rim_map.specs.MapJson.{IsMap, count, extensions_json, granules_json, launch_json, map_data};
 ghost use Rattle.rim_map.specs.inside.Shared.{with_space};
-ghost use Rattle.rim_map.specs.inside.Spaces.{AreTexts, IsSpace, seen_space};
+ghost use Rattle.rim_map.specs.inside.Spaces.{IsSpace, seen_space};
 
 use crate::json_parts::{
     extensions_value, granules_value, item_values, launch_value, region_values, stretch_values,
@@ -16,13 +15,13 @@ use crate::members::{Members, put_count, put_values};
 use map_rows::{
     Extensions, Granules, Row, Shown, between, count_extensions, count_granules, item_rows, taken,
 };
-use map_text::warning_lines;
+use map_text::warning_remarks;
 use refusal::NoMemory;
 use rim_accepted::{AcceptedLaunch, ListedLaunch};
 use rim_launch::Config;
 use rim_manifest::{NamedLaunch, Release};
-use serde_json::{Map, Value, json, put};
-use shown_text::Line;
+use serde_json::{Map, Value, put};
+use shown_text::remark_values;
 use std::alloc::{AllocError, Global};
 
 /// The map of a launch that is accepted: one JSON object without spaces, and a line feed. Its members are `extensions`,
@@ -42,7 +41,7 @@ pub fn map_json(
     let shown = Shown { release, launch };
     let granules = count_granules(listed)?;
     let extensions = count_extensions(alloc, accepted)?;
-    let warnings = warning_values(alloc, accepted)?;
+    let warnings = remark_values(alloc, &warning_remarks(alloc, accepted)?)?;
     let rows = item_rows(alloc, launch.launch(), accepted.files(), accepted.placed())?;
     let space = placed_space(alloc, shown, &rows)?;
     let value = map_value(alloc, launch, space, &granules, &extensions, warnings)?;
@@ -161,31 +160,4 @@ pub(crate) fn put_head(
     let value = launch_value(alloc, launch)?;
     put(members, alloc, "launch", value)?;
     put_count(alloc, members, "version", 1)
-}
-
-/// The line of each warning of a launch as a text.
-fn warning_values(alloc: Global, accepted: &AcceptedLaunch<'_>) -> Result<Vec<Value>, NoMemory>
-    ensures { IfOk result (λ values. AreTexts (map view values.items)) }
-{
-    let lines = warning_lines(alloc, accepted)?;
-    Ok(line_values(alloc, &lines)?)
-}
-
-/// Lines as texts.
-fn line_values(alloc: Global, lines: &[Line]) -> Result<Vec<Value>, AllocError>
-    ensures { IfOk result (λ values. AreTexts (map view values.items)) }
-{
-    let mut values = Vec::with_capacity(alloc, lines.len())?;
-    for line in lines {
-        values.push(text_value(alloc, line.as_slice())?)?;
-    }
-    Ok(values)
-}
-
-/// A text of UTF-8; other bytes are shown as the replacement character.
-pub(crate) fn text_value(alloc: Global, bytes: &[u8]) -> Result<Value, AllocError>
-    ensures { IfOk result (λ v. view v ≡ string (utf8_lossy bytes.now)) }
-{
-    let text = String::from_utf8_lossy(alloc, bytes)?;
-    json!(in alloc; text.as_str())
 }

@@ -1,17 +1,17 @@
 //! The map of a launch that is refused, as far as it goes: the items at their places where its list is refused, and as the manifest
 //! states them where it cannot be laid out. What its lines show before the last one is tested alone.
-ghost use Rattle.std.specs.Prelude.{◌≡◌, ◌++◌, ℕ, List, IfOk, OnOk, codes, map};
-ghost use Rattle.std.specs.Str.Lossy.{utf8_lossy};
+ghost use Rattle.std.specs.Prelude.{◌≡◌, IfOk, OnOk, codes, map};
 ghost use Rattle.serde_json.specs.Data.{put as with_member, string};
 ghost use Rattle.serde_json.specs.View.{members_view, view};
 ghost use Rattle.ipa_layout.specs.Files.{bytes_of_files};
 ghost use Rattle.rim_accepted.specs.AuditFaults.{audit_kind_of};
 ghost use Rattle.rim_accepted.specs.Reasons.{audit_fault_of};
 ghost use Rattle.rim_manifest.specs.Launches.{item_name};
-ghost use Rattle.rim_map.specs.RefusedMap.{EndsWithLine, IsRefusedMap, ShowsSpace, refused_data, size_json, stated_item_json, stated_items_json, stated_json};
+ghost use Rattle.rim_map.specs.RefusedMap.{EndsWithRemark, IsRefusedMap, ShowsSpace, refused_data, size_json, stated_item_json, stated_items_json, stated_json};
 ghost use Rattle.rim_map.specs.inside.Spaces.{IsStated, seen_space};
+ghost use Rattle.shown_text.specs.RemarkJson.{remark_json};
 
-use crate::json::{Space, placed_space, put_head, put_space, text, text_value};
+use crate::json::{Space, placed_space, put_head, put_space, text};
 use crate::json_parts::{put_item, region_values, stretch_values};
 use crate::members::{Members, put_count, put_text};
 use map_rows::{Shown, between, item_rows};
@@ -21,15 +21,16 @@ use rim_accepted::LaunchReason;
 use rim_launch::Item;
 use rim_manifest::{NamedLaunch, Release};
 use serde_json::{Map, Value, put};
+use shown_text::{Remark, remark_value};
 use std::alloc::{AllocError, Global};
 
-/// A launch that is refused, why it is refused, and the line that says so, with its line feed.
+/// A launch that is refused, why it is refused, and the remark that says so.
 #[derive(Clone, Copy)]
 pub struct RefusedLaunch<'a> {
     pub launch: &'a NamedLaunch,
     pub files: &'a [Vec<u8>],
     pub reason: &'a LaunchReason,
-    pub line: &'a [u8],
+    pub remark: &'a Remark,
 }
 
 /// The map of a launch that is refused: a line with what it is, its address space as far as it is known, and the line that says why
@@ -39,10 +40,11 @@ pub fn refused_text(
     release: &Release,
     refused: &RefusedLaunch<'_>,
 ) -> Result<Vec<u8>, NoMemory>
-    ensures { IfOk result (λ text. EndsWithLine refused.now.line.now text.items) }
+    ensures { IfOk result (λ text. EndsWithRemark refused.now.remark.now text.items) }
 {
     let mut text = lines_before(alloc, release, refused)?.into_bytes();
-    text.extend_from_slice(refused.line)?;
+    refused.remark.push_to(&mut text)?;
+    text.push(b'\n')?;
     Ok(text)
 }
 
@@ -77,9 +79,9 @@ pub fn refused_json(
     release: &Release,
     refused: &RefusedLaunch<'_>,
 ) -> Result<Vec<u8>, NoMemory>
-    ensures { IfOk result (λ text. (line : List ℕ) → refused.now.line.now ≡ line ++ codes "\n"
-        → IsRefusedMap release.now.paths refused.now.launch.now
-        (bytes_of_files refused.now.files.now) refused.now.reason.now line text.items) }
+    ensures { IfOk result (λ text. IsRefusedMap release.now.paths refused.now.launch.now
+        (bytes_of_files refused.now.files.now) refused.now.reason.now refused.now.remark.now
+        text.items) }
 {
     let space = shown_space(alloc, release, refused)?;
     let value = refused_value(alloc, refused, space)?;
@@ -179,9 +181,8 @@ fn refused_value(
     refused: &RefusedLaunch<'_>,
     space: Space,
 ) -> Result<Value, AllocError>
-    ensures { IfOk result (λ v. (line : List ℕ) → refused.now.line.now ≡ line ++ codes "\n"
-        → view v ≡ refused_data refused.now.launch.now (seen_space space)
-        (utf8_lossy line) (audit_kind_of (audit_fault_of refused.now.reason.now))) }
+    ensures { IfOk result (λ v. view v ≡ refused_data refused.now.launch.now (seen_space space)
+        refused.now.remark.now (audit_kind_of (audit_fault_of refused.now.reason.now))) }
 {
     let mut members = Map::new(alloc);
     put_space(alloc, &mut members, space)?;
@@ -196,24 +197,13 @@ fn put_refusal(
     members: &mut Members,
     refused: &RefusedLaunch<'_>,
 ) -> Result<(), AllocError>
-    ensures { OnOk result ((line : List ℕ) → refused.now.line.now ≡ line ++ codes "\n"
-        → members_view members.new.entries
+    ensures { OnOk result (members_view members.new.entries
         ≡ with_member (codes "refused")
         (string (audit_kind_of (audit_fault_of refused.now.reason.now)))
-        (with_member (codes "refusal") (string (utf8_lossy line))
+        (with_member (codes "refusal") (remark_json refused.now.remark.now)
         (members_view members.old.entries))) }
 {
-    let refusal = text_value(alloc, without_feed(refused.line))?;
+    let refusal = remark_value(alloc, refused.remark)?;
     put(members, alloc, "refusal", refusal)?;
     put_text(alloc, members, "refused", refused.reason.fault().kind())
-}
-
-/// A line without the line feed at its end, if it has one.
-fn without_feed(line: &[u8]) -> &[u8]
-    ensures { (before : List ℕ) → line.entry.now ≡ before ++ codes "\n" → result.now ≡ before }
-{
-    match line.split_last() {
-        Some((last, before)) if *last == b'\n' => before,
-        _ => line,
-    }
 }

@@ -14,6 +14,7 @@ use rim_release::{
     StartFault, audit, audit_report, json_report, listing, measure_alone, measure_release,
     placed_devicetree, read_manifest, trace_or_refusal,
 };
+use shown_text::{Remark, Word};
 use std::alloc::{AllocError, Global};
 use std::sync::Wait;
 use std::sync::atomic::{AtomicU64, Ordering};
@@ -89,11 +90,12 @@ fn mapped<R: Print + AllocGlobal>(
             }
         }
         Ok(Err(reason)) => {
+            let remark = Remark::new(alloc, Word::Fault("refused"));
             let refused = RefusedLaunch {
                 launch: launch.launch,
                 files: launch.files,
                 reason: &reason,
-                line: b"refused\n",
+                remark: &remark,
             };
             if is_json {
                 tried!(trial, refused_json(alloc, release, &refused) => text_digest, NoMemory)

@@ -26,7 +26,7 @@ pub fn seen<R: Print + AllocGlobal>(
             tried!(trial, read_manifest(alloc, text) => release_digest, ManifestFault::NoMemory),
         TextCall::CheckManifest =>
             tried!(trial, check_manifest(alloc, MANIFEST, text) => check_digest, NoMemory),
-        TextCall::MarkFirst => tried!(trial, mark_first(alloc, text) => mark_digest, NoMemory),
+        TextCall::MarkFirst => fault_marked(trial, text),
         TextCall::CheckJson => written_as_json(trial, text),
     }
 }
@@ -34,13 +34,23 @@ pub fn seen<R: Print + AllocGlobal>(
 /// The path of the manifest that is checked.
 const MANIFEST: &str = "manifest.toml";
 
+/// The line with the first fault of a manifest.
+fn fault_marked<R: Print + AllocGlobal>(trial: &Trial<'_, R>, text: &[u8]) -> Result<Seen, Fault> {
+    let alloc = trial.rt.alloc();
+    let first = match check_manifest(alloc, MANIFEST, text)? {
+        ManifestCheck::Faulty(_, first) => first,
+        ManifestCheck::Readable(_) => None,
+    };
+    tried!(trial, mark_first(alloc, text, first) => mark_digest, NoMemory)
+}
+
 /// What a check finds in a manifest, as JSON.
 fn written_as_json<R: Print + AllocGlobal>(
     trial: &Trial<'_, R>,
     text: &[u8],
 ) -> Result<Seen, Fault> {
     let alloc = trial.rt.alloc();
-    let ManifestCheck::Faulty(faults) = check_manifest(alloc, MANIFEST, text)? else {
+    let ManifestCheck::Faulty(faults, _) = check_manifest(alloc, MANIFEST, text)? else {
         return Err(Fault::Input);
     };
     tried!(trial, check_json(alloc, &faults, &faults, 3) => text_digest, NoMemory)
@@ -86,7 +96,7 @@ fn release_digest(alloc: Global, release: &Release) -> Result<u64, AllocError> {
 
 fn check_digest(alloc: Global, check: &ManifestCheck) -> Result<u64, AllocError> {
     match check {
-        ManifestCheck::Faulty(faults) => remarks_digest(alloc, faults),
+        ManifestCheck::Faulty(faults, _) => remarks_digest(alloc, faults),
         ManifestCheck::Readable(release) => release_digest(alloc, release),
     }
 }

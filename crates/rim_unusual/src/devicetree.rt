@@ -1,7 +1,7 @@
 //! A devicetree that does not go with its launch, or is none of a realm.
 use crate::chosen::{InitrdPlace, Seed};
 use crate::firmware::firmware_region;
-use crate::items::placed_bytes;
+use crate::items::{number_of, placed_bytes};
 use crate::memory::ram_ranges;
 use crate::ranges::{Difference, first_difference, merged};
 use crate::seen::{SeenTree, SeenTrees, TreeFacts, look_at};
@@ -12,9 +12,10 @@ use rim_accepted::AcceptedLaunch;
 use rim_desc::Source;
 use rim_launch::{Launch, Role};
 use rim_show::devicetree_kind;
-use shown_text::Quoted;
+use shown_text::{Joint, Quoted, Remark};
 use std::alloc::Global;
 use std::fmt;
+use std::fmt::Write;
 
 /// What is rarely meant of a launch's devicetree, with the name of its item.
 #[derive(Clone, Copy)]
@@ -53,61 +54,69 @@ pub enum TreeFault {
     Gic2,
 }
 
-impl fmt::Display for UnusualTree<'_> {
-    fn fmt<W: fmt::Write>(&self, f: &mut fmt::Formatter<W>) -> fmt::Result {
+impl UnusualTree<'_> {
+    /// Adds it to its warning.
+    pub(crate) fn write_to(&self, remark: &mut Remark) -> fmt::Result {
         let UnusualTree { item, what } = *self;
         let item = Quoted(item);
-        write!(f, "item {item}: {what}")
+        write!(remark.given, "item {item}: ")?;
+        what.write_to(remark)
     }
 }
 
-impl fmt::Display for TreeFault {
-    fn fmt<W: fmt::Write>(&self, f: &mut fmt::Formatter<W>) -> fmt::Result {
+impl TreeFault {
+    /// Adds it to its warning.
+    fn write_to(&self, remark: &mut Remark) -> fmt::Result {
         match *self {
             TreeFault::Unreadable(fault) => {
                 let kind = devicetree_kind(fault);
-                write!(f, "{kind}, expected a devicetree")
+                write!(remark.given, "{kind}")?;
+                write!(remark.expected, "a devicetree")
             }
             TreeFault::Memory(difference) => {
-                write!(f, "memory nodes differ from ram: {difference}")
+                write!(remark.given, "memory nodes differ from ram: ")?;
+                difference.write_to(remark)
             }
-            TreeFault::Initrd { found, expected } => write_initrd(f, found, expected),
-            TreeFault::Processors { found, expected } => write!(
-                f,
-                "processors in /cpus: {found}, expected {expected}, one for each REC"
-            ),
+            TreeFault::Initrd { found, expected } => {
+                let InitrdPlace { start, end } = found;
+                write!(
+                    remark.given,
+                    "linux,initrd-start is {start} and linux,initrd-end is {end}"
+                )?;
+                let InitrdPlace { start, end } = expected;
+                write!(remark.expected, "{start} and {end}")
+            }
+            TreeFault::Processors { found, expected } => {
+                write!(remark.given, "processors in /cpus: {found}")?;
+                write!(remark.expected, "{expected}, one for each REC")
+            }
             TreeFault::Seed(seed) => {
-                write!(f, "{seed}, expected none: no two starts measure the same")
+                write!(remark.given, "{seed}")?;
+                write!(remark.expected, "none")?;
+                because(remark, "no two starts measure the same")
             }
-            TreeFault::Slack { size, needed } => write!(
-                f,
-                "{size} bytes, expected {needed} as it would have with an edit: \
-                 the rest is not used"
-            ),
-            TreeFault::Hvc => f.write_str(
-                "psci has the method \"hvc\", expected \"smc\": \
-                 Linux looks for a monitor only then",
-            ),
-            TreeFault::Gic2 => f.write_str(
-                "the interrupt controller is a GIC 2, expected a GIC 3, as each realm has",
-            ),
+            TreeFault::Slack { size, needed } => {
+                write!(remark.given, "{size} bytes")?;
+                write!(remark.expected, "{needed} as it would have with an edit")?;
+                because(remark, "the rest is not used")
+            }
+            TreeFault::Hvc => {
+                write!(remark.given, "psci has the method \"hvc\"")?;
+                write!(remark.expected, "\"smc\"")?;
+                because(remark, "Linux looks for a monitor only then")
+            }
+            TreeFault::Gic2 => {
+                write!(remark.given, "the interrupt controller is a GIC 2")?;
+                write!(remark.expected, "a GIC 3, as each realm has")
+            }
         }
     }
 }
 
-/// That a devicetree has another place of the initrd than the launch.
-fn write_initrd<W: fmt::Write>(
-    f: &mut fmt::Formatter<W>,
-    found: InitrdPlace,
-    expected: InitrdPlace,
-) -> fmt::Result {
-    let InitrdPlace { start, end } = found;
-    write!(
-        f,
-        "linux,initrd-start is {start} and linux,initrd-end is {end}, "
-    )?;
-    let InitrdPlace { start, end } = expected;
-    write!(f, "expected {start} and {end}")
+/// Adds why something is expected.
+fn because(remark: &mut Remark, why: &str) -> fmt::Result {
+    remark.joint = Joint::Colon;
+    remark.help.write_str(why)
 }
 
 /// Adds what is rarely meant of the devicetree of a launch, if it has one. Of a file it is found once.
@@ -139,11 +148,6 @@ pub(crate) fn find_in_tree<'a>(
         }
         _ => push_faults(alloc, found, item, accepted, &look_at(alloc, bytes)?),
     }
-}
-
-/// The number of the item with a role, if a launch has one.
-fn number_of(launch: &Launch, role: Role) -> Option<usize> {
-    launch.items().iter().position(|item| item.has_role(role))
 }
 
 /// Adds what is rarely meant of a devicetree that was looked at.

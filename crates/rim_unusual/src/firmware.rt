@@ -1,6 +1,6 @@
 //! A launch that begins with firmware: what it enters is no kernel, but raw bytes. Hypervisors copy firmware to where a plain guest has
 //! flash, or to the start of RAM. What it boots is not measured by the launch.
-use crate::items::has_role;
+use crate::items::{has_role, number_of};
 use ipa_layout::PlacedItem;
 use rim_accepted::AcceptedLaunch;
 use rim_launch::{Region, Role};
@@ -36,11 +36,7 @@ pub(crate) fn firmware_region(accepted: &AcceptedLaunch<'_>) -> Option<Region> {
 
 /// The address of a launch's devicetree, if it has one.
 fn placed_tree(accepted: &AcceptedLaunch<'_>) -> Option<u64> {
-    let number = accepted
-        .launch()
-        .items()
-        .iter()
-        .position(|item| item.has_role(Role::Dtb))?;
+    let number = number_of(accepted.launch(), Role::Dtb)?;
     Some(accepted.placed().items().get(number)?.address)
 }
 

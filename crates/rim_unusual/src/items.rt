@@ -4,10 +4,11 @@ use crate::initrd::{Front, is_initrd};
 use crate::unusual::Unusual;
 use refusal::NoMemory;
 use rim_accepted::AcceptedLaunch;
-use rim_launch::{Item, Role};
+use rim_launch::{Item, Launch, Role};
 use rim_manifest::NamedLaunch;
-use shown_text::Quoted;
+use shown_text::{Quoted, Remark};
 use std::fmt;
+use std::fmt::Write;
 
 /// How a flattened devicetree begins.
 const DEVICETREE_MAGIC: [u8; 4] = [0xd0, 0x0d, 0xfe, 0xed];
@@ -31,60 +32,54 @@ pub enum UnusualItem<'a> {
     SameFile { first: &'a str, second: &'a str },
 }
 
-impl fmt::Display for UnusualItem<'_> {
-    fn fmt<W: fmt::Write>(&self, f: &mut fmt::Formatter<W>) -> fmt::Result {
+impl UnusualItem<'_> {
+    /// Adds it to its warning.
+    pub(crate) fn write_to(&self, remark: &mut Remark) -> fmt::Result {
         match *self {
             UnusualItem::NoKernel => {
-                f.write_str("no item of kind \"kernel\", expected one for REC 0 to enter")
+                write!(remark.given, "no item of kind \"kernel\"")?;
+                write!(remark.expected, "one for REC 0 to enter")
             }
             UnusualItem::NoDevicetree => {
-                f.write_str("no item of kind \"dtb\", expected one for Linux to read")
+                write!(remark.given, "no item of kind \"dtb\"")?;
+                write!(remark.expected, "one for Linux to read")
             }
-            UnusualItem::RawImage { item } => write_raw(f, item, "an arm64 Image", "kernel"),
-            UnusualItem::RawDevicetree { item } => write_raw(f, item, "a devicetree", "dtb"),
+            UnusualItem::RawImage { item } => write_raw(remark, item, "an arm64 Image", "kernel"),
+            UnusualItem::RawDevicetree { item } => write_raw(remark, item, "a devicetree", "dtb"),
             UnusualItem::EmptyInitrd { item } => {
                 let item = Quoted(item);
-                write!(f, "item {item} has no bytes, expected an initrd")
+                write!(remark.given, "item {item} has no bytes")?;
+                write!(remark.expected, "an initrd")
             }
-            UnusualItem::OtherInitrd { item, front } => write_other_initrd(f, item, front),
+            UnusualItem::OtherInitrd { item, front } => {
+                let item = Quoted(item);
+                write!(
+                    remark.given,
+                    "item {item} of kind \"initrd\" begins with {front}"
+                )?;
+                write!(
+                    remark.expected,
+                    "gzip, xz, zstd, lz4, lzma, lzo, bzip2 or cpio"
+                )
+            }
             UnusualItem::SameFile { first, second } => {
                 let first = Quoted(first);
                 let second = Quoted(second);
                 write!(
-                    f,
-                    "items {first} and {second} have the same file, expected one for each"
-                )
+                    remark.given,
+                    "items {first} and {second} have the same file"
+                )?;
+                write!(remark.expected, "one for each")
             }
         }
     }
 }
 
 /// That a raw item begins as what has a kind of its own.
-fn write_raw<W: fmt::Write>(
-    f: &mut fmt::Formatter<W>,
-    item: &str,
-    form: &str,
-    kind: &str,
-) -> fmt::Result {
+fn write_raw(remark: &mut Remark, item: &str, form: &str, kind: &str) -> fmt::Result {
     let item = Quoted(item);
-    write!(
-        f,
-        "item {item} of kind \"raw\" begins as {form}, expected kind \"{kind}\""
-    )
-}
-
-/// That an initrd begins as none.
-fn write_other_initrd<W: fmt::Write>(
-    f: &mut fmt::Formatter<W>,
-    item: &str,
-    front: Front<'_>,
-) -> fmt::Result {
-    let item = Quoted(item);
-    write!(
-        f,
-        "item {item} of kind \"initrd\" begins with {front}, \
-         expected gzip, xz, zstd, lz4, lzma, lzo, bzip2 or cpio"
-    )
+    write!(remark.given, "item {item} of kind \"raw\" begins as {form}")?;
+    write!(remark.expected, "kind \"{kind}\"")
 }
 
 /// Adds what is rarely meant of the items of a launch.
@@ -118,6 +113,11 @@ pub(crate) fn find_in_items<'a>(
 /// Whether some item has a role.
 pub(crate) fn has_role(items: &[Item], role: Role) -> bool {
     items.iter().any(|item| item.has_role(role))
+}
+
+/// The number of the item with a role, if a launch has one.
+pub(crate) fn number_of(launch: &Launch, role: Role) -> Option<usize> {
+    launch.items().iter().position(|item| item.has_role(role))
 }
 
 /// The bytes of an item as it is placed, by its number; none where it has no file.

@@ -5,7 +5,9 @@ use refusal::NoMemory;
 use rim_accepted::AcceptedLaunch;
 use rim_launch::{Launch, Region};
 use rmm_model::protected_end;
+use shown_text::Remark;
 use std::fmt;
+use std::fmt::Write;
 
 const MIB: u64 = 1 << 20;
 
@@ -23,27 +25,25 @@ pub enum UnusualRam {
     SizeAsEnd { region: Region, expected: u64 },
 }
 
-impl fmt::Display for UnusualRam {
-    fn fmt<W: fmt::Write>(&self, f: &mut fmt::Formatter<W>) -> fmt::Result {
+impl UnusualRam {
+    /// Adds it to its warning.
+    pub(crate) fn write_to(&self, remark: &mut Remark) -> fmt::Result {
         match *self {
             UnusualRam::Uneven { number, region } => {
                 let Region { base, end } = region;
                 let size = size_of(&region);
                 write!(
-                    f,
-                    "ram {number} from {base:#x} to {end:#x} has {size:#x} bytes, \
-                     expected a whole number of MiB"
-                )
+                    remark.given,
+                    "ram {number} from {base:#x} to {end:#x} has {size:#x} bytes"
+                )?;
+                write!(remark.expected, "a whole number of MiB")
             }
             UnusualRam::SizeAsEnd { region, expected } => {
                 let Region { base, end } = region;
                 let size = Size(size_of(&region));
                 let meant = Size(end);
-                write!(
-                    f,
-                    "ram 0 from {base:#x} to {end:#x} has {size}, \
-                     expected the end {expected:#x} for {meant}"
-                )
+                write!(remark.given, "ram 0 from {base:#x} to {end:#x} has {size}")?;
+                write!(remark.expected, "the end {expected:#x} for {meant}")
             }
         }
     }

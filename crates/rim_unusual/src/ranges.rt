@@ -1,8 +1,10 @@
 //! Sets of addresses.
 use ipa_layout::IpaRange;
 use refusal::NoMemory;
+use shown_text::Remark;
 use std::alloc::Global;
 use std::fmt;
+use std::fmt::Write;
 
 /// Where two sets of addresses differ first: the range of the one and of the other. Where one of them has no more, its range
 /// is `None`.
@@ -12,11 +14,13 @@ pub struct Difference {
     expected: Option<IpaRange>,
 }
 
-impl fmt::Display for Difference {
-    fn fmt<W: fmt::Write>(&self, f: &mut fmt::Formatter<W>) -> fmt::Result {
+impl Difference {
+    /// Adds it to its warning.
+    pub(crate) fn write_to(&self, remark: &mut Remark) -> fmt::Result {
         let found = RangeText(self.found);
         let expected = RangeText(self.expected);
-        write!(f, "{found}, expected {expected}")
+        write!(remark.given, "{found}")?;
+        write!(remark.expected, "{expected}")
     }
 }
 

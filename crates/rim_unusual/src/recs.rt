@@ -2,7 +2,9 @@
 use crate::unusual::Unusual;
 use ipa_layout::PlacedRec;
 use refusal::NoMemory;
+use shown_text::Remark;
 use std::fmt;
+use std::fmt::Write;
 
 /// What is rarely meant of a launch's RECs.
 #[derive(Clone, Copy)]
@@ -13,20 +15,28 @@ pub enum UnusualRec {
     AtZero { number: usize, others: usize },
 }
 
-impl fmt::Display for UnusualRec {
-    fn fmt<W: fmt::Write>(&self, f: &mut fmt::Formatter<W>) -> fmt::Result {
+impl UnusualRec {
+    /// Adds it to its warning.
+    pub(crate) fn write_to(&self, remark: &mut Remark) -> fmt::Result {
         match *self {
-            UnusualRec::None => f.write_str("no REC, expected one for each processor"),
-            UnusualRec::AtZero { number, others: 0 } => write!(
-                f,
-                "REC {number} enters at 0x0, expected runnable = false where its processor \
-                 begins off (rim_manifest = 2, rec_rule)"
-            ),
-            UnusualRec::AtZero { number, others } => write!(
-                f,
-                "REC {number} and {others} more enter at 0x0, expected runnable = false where \
-                 a processor begins off (rim_manifest = 2, rec_rule)"
-            ),
+            UnusualRec::None => {
+                write!(remark.given, "no REC")?;
+                write!(remark.expected, "one for each processor")
+            }
+            UnusualRec::AtZero { number, others } => {
+                let processor = if others == 0 {
+                    write!(remark.given, "REC {number} enters at 0x0")?;
+                    "its processor"
+                } else {
+                    write!(remark.given, "REC {number} and {others} more enter at 0x0")?;
+                    "a processor"
+                };
+                write!(
+                    remark.expected,
+                    "runnable = false where {processor} begins off"
+                )?;
+                write!(remark.help, "rim_manifest = 2, rec_rule")
+            }
         }
     }
 }

@@ -7,10 +7,12 @@ use crate::seen::SeenTrees;
 use refusal::NoMemory;
 use rim_accepted::AcceptedLaunch;
 use rim_launch::Launch;
+use shown_text::{Remark, Word};
 use std::alloc::Global;
 use std::fmt;
+use std::fmt::Write;
 
-/// What is rarely meant in a launch. Printed, it is what a warning says after the launch's name.
+/// What is rarely meant in a launch.
 #[derive(Clone, Copy)]
 pub enum Unusual<'a> {
     /// It has no RAM, no item and no REC.
@@ -21,16 +23,25 @@ pub enum Unusual<'a> {
     Tree(UnusualTree<'a>),
 }
 
-impl fmt::Display for Unusual<'_> {
-    fn fmt<W: fmt::Write>(&self, f: &mut fmt::Formatter<W>) -> fmt::Result {
-        match *self {
-            Unusual::Empty => {
-                f.write_str("no RAM, no item and no REC: only the realm's parameters are measured")
-            }
-            Unusual::Rec(rec) => write!(f, "{rec}"),
-            Unusual::Item(item) => write!(f, "{item}"),
-            Unusual::Ram(ram) => write!(f, "{ram}"),
-            Unusual::Tree(tree) => write!(f, "{tree}"),
+impl Unusual<'_> {
+    /// The warning of it, without a place.
+    pub fn remark(&self, alloc: Global) -> Result<Remark, NoMemory> {
+        let mut remark = Remark::new(alloc, Word::Warning);
+        self.write_to(&mut remark).map_err(|_| NoMemory)?;
+        Ok(remark)
+    }
+
+    /// Adds it to its warning.
+    fn write_to(&self, remark: &mut Remark) -> fmt::Result {
+        match self {
+            Unusual::Empty => write!(
+                remark.given,
+                "no RAM, no item and no REC: only the realm's parameters are measured"
+            ),
+            Unusual::Rec(rec) => rec.write_to(remark),
+            Unusual::Item(item) => item.write_to(remark),
+            Unusual::Ram(ram) => ram.write_to(remark),
+            Unusual::Tree(tree) => tree.write_to(remark),
         }
     }
 }

@@ -22,7 +22,7 @@ pub struct Line {
 }
 
 impl Line {
-    ghost use Rattle.std.specs.Prelude.{◌≡◌, ◌++◌, [], OnOk, true};
+    ghost use Rattle.std.specs.Prelude.{◌≡◌, ◌++◌, [], IfOk, OnOk, true};
     ghost use Rattle.std.specs.List.{list_all};
     ghost use Rattle.shown_text.specs.Shown.{is_inside, is_plain};
 
@@ -33,6 +33,16 @@ impl Line {
         Line {
             text: Vec::new(alloc),
         }
+    }
+
+    /// The line that shows a text.
+    pub fn of(alloc: Global, text: &str) -> Result<Line, AllocError>
+        ensures { IfOk result (λ line. list_all is_plain text.now ≡ true
+            → line.text.items ≡ text.now) }
+    {
+        let mut line = Line::new(alloc);
+        line.push_text(text)?;
+        Ok(line)
     }
 
     /// Its bytes. None of them is a line feed.

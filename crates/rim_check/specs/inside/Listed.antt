@@ -9,6 +9,8 @@ use Rattle.rim_manifest.specs.declared.finding.Subject.TheVariants as subject
 use Rattle.rim_manifest.specs.declared.finding.Finding.{Finding}
 use Rattle.rim_manifest.specs.inside.Kept.{faults_in}
 use Rattle.rim_check.specs.Explained.{Located, fault_said, others_said}
+use Rattle.rim_check.specs.declared.manifest.ManifestCheck.{ManifestCheck}
+use Rattle.rim_check.specs.declared.manifest.ManifestCheck.TheVariants.{Faulty}
 use Rattle.shown_text.specs.declared.remark.Remark.{Remark}
 use Rattle.shown_text.specs.Lines.{SayInTurn}
 use Rattle.rim_spot.specs.declared.spot.Spot.{Spot}
@@ -38,3 +40,8 @@ pub record ShowsList (path : List ℕ) (ms : Members) (listed : List ManifestFau
   pub beside : others ≤ more
   pub within : length faults + more ≤ length listed + others
   pub lines : SayInTurn (map (fault_said path (Some ms)) faults ++ others_said more) remarks
+
+-- a manifest is checked, and has such a list
+abbrev pub ListsFaults : List ℕ → Members → List ManifestFault → ℕ → ManifestCheck → Type 0
+ListsFaults path ms listed others (Faulty remarks spot) = ShowsList path ms listed others remarks.items
+ListsFaults path ms listed others _ = ⊥

@@ -1,6 +1,5 @@
--- An address space and texts as JSON values. This project's choice.
+-- An address space as JSON values. This project's choice.
 use Rattle.std.specs.Prelude.{◌≡◌, ℕ, List, map}
-use Rattle.serde_json.specs.Data.{Data, string}
 use Rattle.serde_json.specs.View.{view}
 use Rattle.rim_manifest.specs.Launches.{NamedData}
 use Rattle.rim_map.specs.MapJson.{SpaceView, space_of}
@@ -26,8 +25,3 @@ pub record IsStated (paths : List (List ℕ)) (l : NamedData) (space : SpaceView
   pub between : List Stretch
   pub around : IsBetween l.launch.ram between
   pub is : space ≡ stated_of paths l between
-
--- values are some texts
-pub record AreTexts (ds : List Data) : Type 0 where
-  pub texts : List (List ℕ)
-  pub are : ds ≡ map string texts

@@ -1,7 +1,8 @@
 use Rattle.std.proofs.Common.{refl}
 use Rattle.std.proofs.lemmas.Result.{on_ok_weaker}
 use Rattle.ipa_layout.specs.Files.{bytes_of_files}
-use Rattle.rim_check.specs.Explained.{AddsRefusal}
+use Rattle.rim_check.specs.Explained.{refusal_said}
+use Rattle.shown_text.specs.Lines.{AddsLine}
 use Rattle.rim_check.proofs.FoundOfLaunches.{accepted-all, refused-found}
 use Rattle.rim_check.proofs.launches.look_at.Goals as goal
 
@@ -16,7 +17,6 @@ pub returns-in-Err : goal.returns-in-Err
 returns-in-Err c =
     let refused = rw c.in-Err.is at c.in_ok-accepted.ensures.reason in
     on_ok_weaker _
-    (λ (line : AddsRefusal c.args.loaded.launch.now c.in-Err.reason c.args.found.now.refusals.items c.push_refusal.new.remarks.items).
-    refused-found (bytes_of_files c.args.loaded.files.now) c.args.loaded.launch.now c.in-Err.reason line.hint c.args.found.now _ refused line.adds refl refl
-    refl)
+    (λ (adds : AddsLine (refusal_said c.args.loaded.launch.now c.in-Err.reason) c.args.found.now.refusals.items c.push_refusal.new.remarks.items).
+    refused-found (bytes_of_files c.args.loaded.files.now) c.args.loaded.launch.now c.in-Err.reason c.args.found.now _ refused adds refl refl refl)
     c.push_refusal.ensures

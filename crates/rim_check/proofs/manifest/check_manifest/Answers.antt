@@ -1,11 +1,12 @@
-use Rattle.std.proofs.Common.{◌∙◌, ◌≡◌, Ok, Err, ap, refl, subst, sym, true}
+use Rattle.std.proofs.Common.{◌∙◌, ◌≡◌, Ok, ap, refl, subst, sym, true}
 use Rattle.std.proofs.lemmas.Bool.{false≢true}
+use Rattle.std.proofs.lemmas.Result.{IfOk-weaker}
 use Rattle.toml.specs.Errors.{IsMemory}
 use Rattle.toml.specs.View.{table_view}
 use Rattle.rim_manifest.specs.declared.document.Checked.TheVariants.{Accepted}
 use Rattle.rim_manifest.specs.Found.{AreFound, IsChecked}
 use Rattle.rim_manifest.specs.inside.Kept.{faults_in}
-use Rattle.rim_check.proofs.FaultsAreExplained.{explains-list, explains-syntax, of-document, of-none}
+use Rattle.rim_check.proofs.FaultsAreExplained.{explains-syntax, of-document, of-list, of-none}
 use Rattle.rim_check.proofs.manifest.check_manifest.Goals as goal
 
 pub returns-in-Err : goal.returns-in-Err
@@ -25,5 +26,6 @@ returns c =
     let ms = table_view c.in-Ok.document.table in
     let list = c.in-Refused.list in
     let found : AreFound ms (faults_in list.findings.items) list.more = subst (IsChecked ms) c.in-Refused.is c.in_ok-release.ensures in
-    of-document c.args.path.now c.args.text.now ms (Err found.fault) _ c.in-Ok.ensures.document found.refused
-    (explains-list c.args.path.now c.args.text.now ms _ _ _ found c.in-Ok.ensures.document c.in_ok-remarks-in-Refused.ensures)
+    IfOk-weaker c.remarks.result _ _
+    (λ m shows. of-list c.args.path.now c.args.text.now ms _ _ m found c.in-Ok.ensures.document shows)
+    c.remarks.ensures

@@ -11,7 +11,7 @@ returns c =
     let path = c.args.manifest.now.path.now in
     let ms = table_view c.args.manifest.now.document.now.table in
     let excerpt = c.in_ok-excerpt.excerpt in
-    let shows = subst (λ (fs : List Finding). ShowsFindings path ms fs c.in_ok-remarks.remarks.items) c.deref.ensures.value c.in_ok-remarks.ensures in
+    let shows = subst (λ (fs : List Finding). ShowsFindings path ms fs c.in_ok-remarks.remarks.items) c.deref-2.ensures.value c.in_ok-remarks.ensures in
     elim c.if-excerpt-gt0.branch [
       | then-excerpt-gt0+in_ok-push_others w ↦
           rw w.remarks-is (lists-more path ms _ excerpt.findings.items _ excerpt.more _ _ c.in_ok-excerpt.ensures.least c.in_ok-excerpt.ensures.beside

@@ -1,4 +1,4 @@
-use Rattle.std.proofs.Common.{◌++◌, codes, string_bytes}
+use Rattle.std.proofs.Common.{◌++◌, List, codes, string_bytes, ℕ}
 use Rattle.std.proofs.lemmas.Result.{IfOk-weaker}
 use Rattle.toml.specs.View.{table_view}
 use Rattle.rim_hints.specs.Fronts.{table_text}
@@ -7,8 +7,8 @@ use Rattle.rim_hints.proofs.place.place_text.Goals as goal
 
 pub returns-in-Key : goal.returns-in-Key
 returns-in-Key c =
-    let ms = table_view c.args.document.now.table in
-    let key = codes ": " ++ (c.in-Key.key.now ++ codes ": ") in
     rw c.in-Key.is (IfOk-weaker c.format.result _ _
-    (λ s is. placed (table_text ms c.args.place) (string_bytes c.in_ok-table.table) (string_bytes s) key c.in_ok-table.ensures is)
+    (λ s is. placed (table_text (table_view c.args.document.now.table) c.args.place)
+    (λ (table : List ℕ). codes ": " ++ (table ++ (codes ": " ++ c.in-Key.key.now)))
+    (string_bytes c.in_ok-table.table) (string_bytes s) c.in_ok-table.ensures is)
     c.format.ensures.ok)

@@ -4,6 +4,4 @@ use Rattle.shown_text.proofs.AddedRemarks.{remarks-append}
 use Rattle.shown_text.proofs.remark.push_remark.Goals as goal
 
 pub returns : goal.returns
-returns c front known begins ends said says =
-    subst (SayInTurn (said ++ record { front = front; word = c.args.word.now; detail = known } ∷ [])) (sym c.in_ok-push.ensures.items)
-    (remarks-append said _ _ _ (record { word = c.in_ok-word.ensures.ok; begins = begins; ends = ends }) says)
+returns c s own said says = subst (SayInTurn (said ++ s ∷ [])) (sym c.in_ok-push.ensures.items) (remarks-append said s _ _ own says)

@@ -18,8 +18,9 @@ loop-warning-preserved c = λ files are. elim c.match-get.branch [
       let launch : NamedData = w.in-Some.launch.now in
       let low = ltb-true c.warning-item.result.launch (length launches) (sym c.get.ensures.lookup.0 ∙ ap (λ o. is_some o) w.in-Some.is) in
       let there = slice_get_read launches (length launches) c.warning-item.result.launch launch refl low w.in-Some.ensures.lookup.1 in
-      let adds = subst (λ (name : List ℕ). AddsLine
-      (warning_said name) c.loop-warning.remarks.items w.push_warning.new.remarks.items) w.name.ensures w.in_ok-push_warning.ensures in
+      let others = c.warning-item.result.others in
+      let adds = subst (λ (name : List ℕ). AddsLine (warning_said name others) c.loop-warning.remarks.items w.push_warning.new.remarks.items)
+      w.name.ensures w.in_ok-push_warning.ensures in
       let item = c.warning-item.is ∙ ap (λ
       (ws : List Warning). get_or ws c.loop-warning.warning-index c.warning-item.result) c.deref-warning-items.ensures.value in
       let inside = subst (λ (ws : List Warning). c.loop-warning.warning-index < length ws) c.deref-warning-items.ensures.value c.loop-warning-test.true in

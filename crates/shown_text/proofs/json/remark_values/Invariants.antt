@@ -1,7 +1,7 @@
 use Rattle.std.proofs.Common.{◌≡◌, map, take}
 use Rattle.serde_json.specs.View.{view}
-use Rattle.rim_check.specs.CheckJson.{remark_json}
-use Rattle.rim_check.proofs.json.remark_values.Given as goal
+use Rattle.shown_text.specs.RemarkJson.{remark_json}
+use Rattle.shown_text.proofs.json.remark_values.Given as goal
 
 -- what was made are the remarks so far
 abbrev pub invariant-loop-remark : goal.invariant-loop-remark
