@@ -1,5 +1,5 @@
 -- A remark that is added to others.
-use Rattle.std.proofs.Common.{◌≡◌, ◌∙◌, ℕ, List, [], ◌∷◌, ◌++◌, ap, refl, sym, subst}
+use Rattle.std.proofs.Common.{List, [], ◌∷◌, ◌++◌, ap, refl, sym, subst}
 use Rattle.shown_text.specs.Lines.{Saying, Says, SayInTurn}
 use Rattle.shown_text.specs.declared.remark.Remark.{Remark}
 

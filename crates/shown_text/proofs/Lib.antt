@@ -5,3 +5,5 @@ pub mod AddedRemarks
 pub mod PlainBytes
 -- remarks as JSON are texts alone
 pub mod RemarksAsJson
+-- and a launch is shown by its name as that is
+pub mod PlainNames

@@ -26,10 +26,13 @@ said_of word place given expected = record { place = Some place; word = word; gi
 abbrev pub file_said : List ℕ → List ℕ → List ℕ → Saying
 file_said path word why = said_of (Some word) path why []
 
+-- how many others there are, after a name
+abbrev pub others_text : ℕ → List ℕ
+others_text others = if others == 0 then codes "\"" else if others == 1 then codes "\" and 1 other" else codes "\" and " ++ (decimal others ++ codes " others")
+
 -- a launch by its name, and how many others there are
 abbrev pub launch_text : List ℕ → ℕ → List ℕ
-launch_text name others = codes "launch \"" ++ (name ++ (if others == 0 then codes "\"" else if others == 1 then codes "\" and 1 other"
-    else codes "\" and " ++ (decimal others ++ codes " others")))
+launch_text name others = codes "launch \"" ++ (name ++ others_text others)
 
 abbrev pub word_of : Word → Option (List ℕ)
 word_of (Fault word) = Some word.now
