@@ -30,11 +30,18 @@ import reference
 # ---- what tools/oracles/reference.py makes of a manifest
 
 
+def described(path, data):
+    """A file as a report has it."""
+    return {"bytes": len(data), "path": path, "sha256": hashlib.sha256(data).hexdigest()}
+
+
 class Reference:
     """A manifest and its files, of which each launch is measured once."""
 
     def __init__(self, folder, path):
         self.manifest, self.files = reference.read_manifest(path, folder)
+        with open(os.path.join(folder, path), "rb") as file:
+            self.own = described(path, file.read())
         self.measured = {}
 
     def launch(self, name):
@@ -57,7 +64,12 @@ class Reference:
     def described(self):
         """The files as a report has them."""
         contents = [(entry["path"], self.files[entry["name"]]) for entry in self.manifest.get("file", [])]
-        return [{"bytes": len(data), "path": path, "sha256": hashlib.sha256(data).hexdigest()} for path, data in contents]
+        return [described(path, data) for path, data in contents]
+
+    def described_launch(self, name):
+        """What a launch is, as a report has it."""
+        digests = {entry["name"]: each for entry, each in zip(self.manifest.get("file", []), self.described())}
+        return reference.described(self.launch(name), self.files, digests)
 
     def launches(self, names):
         """The lines of these launches in a report, and how many pages they have."""
@@ -84,7 +96,10 @@ def second_opinion(known, words, text):
     found, count = known.launches([line[0] for line in lines])
     pairs = [*zip(lines, found), *([(["pages", pages], ["pages", count])] if pages is not None else [])]
     if text.startswith(b"{"):
-        pairs.append((json.loads(text)["files"], known.described()))
+        report = json.loads(text)
+        pairs += [(report["files"], known.described()), (report["manifests"], [known.own])]
+        whole = [launch for launch in report["launches"] if "rim" in launch]
+        pairs += [({key: launch[key] for key in launch if not key.startswith("rim")}, known.described_launch(launch["name"])) for launch in whole]
     return [f"expected {a}, but tools/oracles/reference.py makes {b}" for a, b in pairs if a != b]
 
 

@@ -87,7 +87,7 @@ def of_schema(name: str, *lists: list[str]) -> list[str]:
 def main() -> int:
     looks = [("kinds", of_kinds), ("steps", of_steps), ("algorithms", of_algorithms),
              ("the schema of a map", partial(of_schema, "map.schema.json", KINDS, ALGORITHMS, RULES)),
-             ("the schema of a report", partial(of_schema, "report.schema.json", ALGORITHMS))]
+             ("the schema of a report", partial(of_schema, "report.schema.json", ALGORITHMS, RULES, KINDS))]
     return told([(name, tried(look)) for name, look in looks])
 
 

@@ -18,7 +18,8 @@ have the key itself:
 
 Any other key of the top or of a row is a value: `{KEY}` in a text is replaced by it. `{program}` is the name and version of the
 program, as it prints them; a row of command-lines.toml says which they are. `{no_numbers}` is the words of a listing for numbers of
-the realm's parameters that are not given. These are at the top alone:
+the realm's parameters that are not given, `{no_parameters}` and `{no_rpv}` are what a report as JSON has for them and for no personalization
+value; `{own}` is what it has of manifest.toml. These are at the top alone:
 
   run             an array of tables of the keys above. A row has a run for each table; but for one with a key `of = "KEY"`
                   only where the row has the key KEY
@@ -35,6 +36,8 @@ What a file has, or what is expected, is one of these:
 
 A row may have a count as a text has it, and is then this many rows.
 """
+import hashlib
+import json
 import os
 import re
 import subprocess
@@ -48,6 +51,12 @@ TESTS = os.path.join(TOP, "tests")
 PLACE = re.compile(r"\{(\w+)\}")
 EXPECTED = ("stdout", "stderr")
 SETTINGS = ("name", "words", "manifest", "files", "stdin", "status", *EXPECTED, "stdout_begins", "stderr_begins", "stderr_has", "reference")
+
+
+# What a listing and a report have for parameters that are not given.
+PARAMETERS = {"pmu": False, "sve": False} | dict.fromkeys(reference.NUMBERS, 0)
+NOTHING_GIVEN = {"no_numbers": " ".join("0" for _ in reference.NUMBERS), "no_rpv": "00" * 64,
+                 "no_parameters": json.dumps(PARAMETERS, sort_keys=True, separators=(",", ":"))}
 
 
 # ---- what the files of rows say
@@ -88,6 +97,12 @@ def with_bases(said, bases):
     return said
 
 
+def own(manifest):
+    """What a report as JSON has of manifest.toml."""
+    data = contents(manifest)
+    return f'{{"bytes":{len(data)},"path":"manifest.toml","sha256":"{hashlib.sha256(data).hexdigest()}"}}'
+
+
 def runs_of_row(top, row):
     """The runs of a row, each as a table of settings."""
     plans = [plan for plan in top.get("run", [{}]) if plan.get("of", "name") in top | row]
@@ -99,6 +114,7 @@ def runs_of_row(top, row):
         run = with_bases(filled(run, values, used), top.get("base", {}))
         if "manifest" in run:
             run["files"]["manifest.toml"] = run.pop("manifest")
+            run |= {key: run[key].replace("{own}", own(run["files"]["manifest.toml"])) for key in EXPECTED if isinstance(run.get(key), str)}
         if len(plans) > 1:
             run["name"] += f" ({run['words'][0]})"
         yield run
@@ -110,7 +126,7 @@ def runs_of_row(top, row):
 def runs_of_rows(name, said):
     """The runs of a file of rows, for a program that says this name and version."""
     with open(os.path.join(TESTS, "rows", name), "rb") as file:
-        top = {"program": said, "no_numbers": " ".join("0" for _ in reference.NUMBERS)} | tomllib.load(file)
+        top = {"program": said, **NOTHING_GIVEN} | tomllib.load(file)
     for many in top.pop("row"):
         for row in times(many):
             for run in runs_of_row(top, row):

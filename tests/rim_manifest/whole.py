@@ -45,7 +45,7 @@ def matrix(program: str):
         lines = folder.run(start=measure, RIM=program)[1].splitlines()
         joined = json.loads(folder.run("--json", "--workers", "2", start=measure, RIM=program)[1])
         wrong += differs("JSON", [f"{each['name']} {each['algorithm']} {each['rim']}" for each in joined["launches"]], lines[1:-1])
-        return wrong + differs("pages", [joined["pages"], joined["version"]], [int(lines[-1].split()[1]), 3])
+        return wrong + differs("pages", [joined["pages"], joined["version"]], [int(lines[-1].split()[1]), 4])
 
 
 def measured(program: str):

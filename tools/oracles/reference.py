@@ -349,6 +349,28 @@ def measure(launch, files, seen):
     return digits, listing.lines
 
 
+def described(launch, files, digests):
+    """What a launch is, as a report of JSON has it."""
+    items, devicetree = [], None
+    for item, at, pages, data in place(launch, files):
+        size = item.get("size", len(data))
+        edits = any(item.get(key) not in (None, False) for key in ("bootargs", "memory", "initrd"))
+        devicetree = hashlib.sha256(data).hexdigest() if edits else devicetree
+        items.append({
+            "edited": edits, "file": digests[item["file"]]["path"] if "file" in item else None, "kind": item["kind"],
+            "measured": item["kind"] != "unknown" and item.get("measured", True), "name": item["name"],
+            "place": {"address": at, "bytes": size, "end": at + size, "lead": at % PAGE, "pages": pages},
+            "sha256": digests[item["file"]]["sha256"] if "file" in item else None})
+    recs = launch.get("rec", [])
+    return {
+        "algorithm": launch["algo"], "block_level": launch.get("block_level", 2), "edited_sha256": devicetree, "items": items,
+        "name": launch["name"],
+        "parameters": {"pmu": launch.get("pmu", False), "sve": launch.get("sve", False)} | {key: launch.get(key, 0) for key in NUMBERS},
+        "ram": [{"base": base, "end": top} for base, top in launch.get("ram", [])],
+        "recs": {"count": len(recs), "rule": launch.get("rec_rule"), "runnable": sum(rec.get("runnable", True) for rec in recs)},
+        "rpv": launch.get("rpv", "00" * 64).lower(), "s2sz": launch["s2sz"]}
+
+
 def read_manifest(path, folder="."):
     """A manifest, and its files by their names. All paths are those of a program that is started in the folder."""
     with open(os.path.join(folder, path), "rb") as file:

@@ -1,24 +1,25 @@
 //! The launches of a release, laid out before any page is hashed.
-ghost use Rattle.std.specs.Prelude.{◌≡◌, IfOk, length};
-ghost use Rattle.std.specs.Result.{result_map_both};
-ghost use Rattle.rim_accepted.specs.Reasons.{audit_fault_of};
+ghost use Rattle.std.specs.Prelude.{◌≡◌, IfOk, length, option_and_then, option_map};
+ghost use Rattle.std.specs.List.{slice_get};
 ghost use Rattle.ipa_layout.specs.Files.{bytes_of_files};
+ghost use Rattle.rim_accepted.specs.Outcomes.{place_in};
 
 use crate::accepted::{AcceptedLaunch, accept};
-use crate::audit_fault::AuditFault;
 use crate::loaded::{LoadedLaunch, LoadedRelease};
 use crate::reason::LaunchReason;
+use ipa_layout::Placed;
 use refusal::NoMemory;
 use rim_manifest::{NamedLaunch, Release};
 use std::alloc::Global;
 use std::marker::Model;
 
-/// A release with its files, each of whose launches is accepted or refused. By its type each is what its own launch comes to.
+/// A release with its files, each of whose launches is accepted or refused for a reason. By its type each is what its own launch
+/// comes to.
 #[derive(Drop)]
 pub struct AcceptedRelease<'a> {
     release: &'a Release,
     files: &'a [Vec<u8>],
-    launches: Vec<Result<AcceptedLaunch<'a>, AuditFault>>,
+    launches: Vec<Result<AcceptedLaunch<'a>, LaunchReason>>,
 }
 
 impl<'a> Model for AcceptedRelease<'a> {
@@ -41,16 +42,46 @@ impl<'a> Model for AcceptedRelease<'a> {
 }
 
 impl<'a> AcceptedRelease<'a> {
-    ghost use Rattle.std.specs.Prelude.{◌≡◌};
+    ghost use Rattle.std.specs.Prelude.{◌≡◌, Some, option_map};
+    ghost use Rattle.std.specs.List.{slice_get};
+    ghost use Rattle.std.specs.Result.{result_ok};
     ghost use Rattle.ipa_layout.specs.Files.{bytes_of_files};
+    ghost use Rattle.ipa_layout.specs.Layout.{places};
+    ghost use Rattle.rim_manifest.specs.Launches.{NamedData};
     ghost use Rattle.rim_accepted.specs.Outcomes.{IsLaidOut};
 
     /// What each launch comes to, in the manifest's order.
-    pub fn outcomes(&self) -> &[Result<AcceptedLaunch<'a>, AuditFault>]
+    pub fn outcomes(&self) -> &[Result<AcceptedLaunch<'a>, LaunchReason>]
         ensures value { result.now ≡ self.now.launches }
         ensures own { IsLaidOut self.now }
     {
         &self.launches
+    }
+
+    /// The release itself.
+    pub fn release(&self) -> &'a Release
+        ensures { result.now ≡ self.now.release }
+    {
+        self.release
+    }
+
+    /// The release with the bytes of its files.
+    pub fn loaded(&self) -> LoadedRelease<'a>
+        ensures release { result.release.now ≡ self.now.release }
+        ensures files { bytes_of_files result.files.now ≡ self.now.files }
+    {
+        LoadedRelease {
+            release: self.release,
+            files: self.files,
+        }
+    }
+
+    /// The place of the launch of this number, where it could be laid out, also where its list is refused.
+    pub fn place(&self, number: usize) -> Option<&Placed>
+        ensures { (l : NamedData) → slice_get self.entry.now.release.launches number ≡ Some l
+            → option_map (λ p. p.now) result ≡ result_ok (places l.launch self.entry.now.files) }
+    {
+        place_at(&self.launches, number)
     }
 
     /// The launches with their names, in the manifest's order.
@@ -79,8 +110,7 @@ pub fn accept_all<'a>(
     let LoadedRelease { release, files } = loaded;
     let mut launches = Vec::with_capacity(alloc, release.launches())?;
     for launch in release.all_launches() {
-        let found = accept(alloc, LoadedLaunch { launch, files })?;
-        launches.push(outcome_of(found))?;
+        launches.push(accept(alloc, LoadedLaunch { launch, files })?)?;
     }
     Ok(AcceptedRelease {
         release,
@@ -89,14 +119,17 @@ pub fn accept_all<'a>(
     })
 }
 
-/// What a launch comes to: it is accepted, or it has a fault.
-fn outcome_of<'a>(
-    found: Result<AcceptedLaunch<'a>, LaunchReason>,
-) -> Result<AcceptedLaunch<'a>, AuditFault>
-    ensures { result ≡ result_map_both (λ a. a) audit_fault_of found.entry }
+/// The place of the launch of a number, if there is one that could be laid out, also where its list is refused.
+fn place_at<'a>(
+    outcomes: &'a [Result<AcceptedLaunch<'_>, LaunchReason>],
+    number: usize,
+) -> Option<&'a Placed>
+    ensures { option_map (λ p. p.now) result
+        ≡ option_and_then place_in (slice_get outcomes.entry.now number) }
 {
-    match found {
-        Ok(accepted) => Ok(accepted),
-        Err(reason) => Err(reason.fault()),
+    match outcomes.get(number)? {
+        Ok(accepted) => Some(accepted.placed()),
+        Err(LaunchReason::List { placed, .. }) => Some(placed),
+        Err(LaunchReason::Layout(_)) => None,
     }
 }

@@ -17,7 +17,7 @@ pub struct Report {
 }
 
 /// Whether some launch is refused, by what came of each.
-pub fn has_refused<T>(outcomes: &[Result<T, AuditFault>]) -> bool
+pub fn has_refused<T, E>(outcomes: &[Result<T, E>]) -> bool
     ensures { result ≡ list_any is_err outcomes.now }
 {
     outcomes.iter().any(|outcome| outcome.is_err())

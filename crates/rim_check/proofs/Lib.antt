@@ -9,10 +9,14 @@ pub mod FaultPlaces
 pub mod LaunchLines
 -- in each turn of that loop: nothing is said of a launch that is accepted, and one line of one that is refused, for its reason
 pub mod SaidOfLaunches
+-- the remarks on launches that were laid out before
+pub mod RefusalsInTurn
 -- and its pages and its warnings, or that some launch is refused
 pub mod FoundOfLaunches
 -- Warnings are about launches that are accepted
 pub mod WarningLines
+-- and a launch that has a name of a manifest is shown by it as it is
+pub mod NamesAreShown
 -- The numbers of a reason: their hexadecimal digits
 pub mod HexadecimalDigits
 -- What a check finds as JSON

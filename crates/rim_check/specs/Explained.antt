@@ -21,7 +21,7 @@ use Rattle.rim_pages.specs.declared.different.TheConstants.{DISTINCT_LIMIT}
 use Rattle.rim_check.specs.Details.{reason_detail, reason_expected}
 use Rattle.rim_hints.specs.Fronts.{place_text, spot_text}
 use Rattle.shown_text.specs.declared.remark.Remark.{Remark}
-use Rattle.shown_text.specs.Lines.{Saying, SayInTurn, launch_text, said_of}
+use Rattle.shown_text.specs.Lines.{Saying, SayInTurn, Says, launch_text, said_of}
 use Rattle.rim_check.specs.Warned.{ShowsWarnings}
 use Rattle.rim_check.specs.declared.found.LaunchCheck.{LaunchCheck}
 use Rattle.rim_check.specs.declared.found.ReleaseFault.{ReleaseFault}
@@ -93,6 +93,17 @@ refusal_said l why = record {
   expected = Some (reason_expected why);
   help = None;
 }
+
+-- the remark on a launch: none where it is accepted, and else one that says for which reason it is refused
+abbrev pub IsRefusalOf : List (List ℕ) → NamedData → Option Remark → Type 0
+IsRefusalOf files l None = IsOk (rim_for l.launch files)
+IsRefusalOf files l (Some r) = (why : LaunchReason) × IsRefusedFor l.launch files why × Says (refusal_said l why) r
+
+-- of each launch
+abbrev pub AreRefusals : List (List ℕ) → List NamedData → List (Option Remark) → Type 0
+AreRefusals files [] [] = Unit {0}
+AreRefusals files (l ∷ ls) (r ∷ rs) = IsRefusalOf files l r × AreRefusals files ls rs
+AreRefusals files _ _ = ⊥
 
 -- what is said of a launch: nothing where it is accepted, else its refusal
 abbrev pub IsSaidOf : List (List ℕ) → NamedData → List Saying → Type 0

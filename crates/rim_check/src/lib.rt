@@ -12,6 +12,7 @@ mod launches;
 mod manifest;
 mod marking;
 mod mending;
+mod refused;
 mod spots;
 mod warnings;
 
@@ -20,6 +21,7 @@ pub use json::check_json;
 pub use launches::{check_launches, refusal_remark};
 pub use manifest::{ManifestCheck, check_manifest};
 pub use marking::{MarkedLine, mark_first};
+pub use refused::refusals;
 pub use rim_accepted::LaunchReason;
 pub use rim_hints::Nearest;
 pub use shown_text::{Remark, lines_of, push_file};

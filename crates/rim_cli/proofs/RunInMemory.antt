@@ -21,9 +21,13 @@ use Rattle.rim_words.specs.declared.words.Format.TheVariants as format
 use Rattle.rim_words.specs.declared.words.Ask.{Ask}
 use Rattle.rim_words.proofs.RequestsOfSubcommands.{measure_asks}
 
+-- where the manifest is
+abbrev pub path : List ℕ
+path = codes "manifest.toml"
+
 -- what is known where there is one manifest
 abbrev pub in_memory : List ℕ → List ℕ → Known
-in_memory manifest path = Some (if bytes_eq path (codes "manifest.toml") then Some manifest else None)
+in_memory manifest p = Some (if bytes_eq p path then Some manifest else None)
 
 pub plain_taken : takes rim plain ≡ true
 unfolding clap_on_literals
@@ -31,17 +35,19 @@ plain_taken = refl
 
 -- what they ask for, if it was made, is the report of the manifest
 pub made_report : (manifest text : List ℕ) (status : ℕ) → AsksFor plain (λ request. IsMade request (in_memory manifest) text status)
-    → IsOkAnd (manifest_of manifest) (λ r. IsReport format.Text (in_memory manifest) r text status)
+    → IsOkAnd (manifest_of manifest) (λ r. IsReport format.Text path manifest (in_memory manifest) r text status)
 unfolding clap_on_literals
 made_report manifest text status made =
     let here : in_memory manifest made.request.path.now ≡ Some (Some manifest)
-    = ap (in_memory manifest) (sym (same_Some _ _ made.asked.1)) ∙ ap (λ (b : Bool). Some (if b then Some manifest else None)) ((bytes_eq-Decides (codes "manifest.toml") (codes "manifest.toml")).1 refl) in
+    = ap (in_memory manifest) (sym (same_Some _ _ made.asked.1)) ∙ ap (λ (b : Bool). Some (if b then Some manifest else None)) ((bytes_eq-Decides path path).1 refl) in
     let answer = subst (λ (known : Known). IfFile known (λ bytes. IsAnswer (in_memory manifest) made.request.ask made.request.path.now bytes text status)) here made.holds in
     let measure = measure_asks made.request.ask made.asked.0 in
     let rows : List Row = option_map_or (λ (p : Text × List Row). p.1) (subcommand_of rim plain) [] in
     let options = subst (λ (asked : Ask). ReadsAsk rows asked) measure.2 made.asked.2 in
     let report = subst (λ (asked : Ask). IsAnswer (in_memory manifest) asked made.request.path.now manifest text status) measure.2 answer in
-    subst (λ (f : Format). IsOkAnd (manifest_of manifest) (λ r. IsReport f (in_memory manifest) r text status)) options.1 report
+    let own : IsOkAnd (manifest_of manifest) (λ r. IsReport format.Text made.request.path.now manifest (in_memory manifest) r text status) =
+    subst (λ (f : Format). IsOkAnd (manifest_of manifest) (λ r. IsReport f made.request.path.now manifest (in_memory manifest) r text status)) options.1 report in
+    subst (λ (p : List ℕ). IsOkAnd (manifest_of manifest) (λ r. IsReport format.Text p manifest (in_memory manifest) r text status)) (sym (same_Some _ _ made.asked.1)) own
 
 -- the report of a release without files
 no_files : (held : List ℕ → Known) (files : List (List ℕ)) → AreRead held [] files → files ≡ []
@@ -50,8 +56,8 @@ no_files held (f ∷ fs) read = absurd read
 
 module _ (manifest : List ℕ) (r : ReleaseData) (reads : manifest_of manifest ≡ Ok r) (none : r.paths ≡ []) (text : List ℕ) (status : ℕ)
     (made : AsksFor plain (λ request. IsMade request (in_memory manifest) text status)) where
-  own_report : IsReport format.Text (in_memory manifest) r text status
-  own_report = subst (λ (m : Result ReleaseData ManifestFault). IsOkAnd m (λ r. IsReport format.Text (in_memory manifest) r text status)) reads (made_report manifest text status made)
+  own_report : IsReport format.Text path manifest (in_memory manifest) r text status
+  own_report = subst (λ (m : Result ReleaseData ManifestFault). IsOkAnd m (λ r. IsReport format.Text path manifest (in_memory manifest) r text status)) reads (made_report manifest text status made)
 
   own_files : own_report.files ≡ []
   own_files = no_files (in_memory manifest) own_report.files (subst (λ (paths : List (List ℕ)). AreRead (in_memory manifest) paths own_report.files) none own_report.read)
@@ -65,7 +71,7 @@ module _ (manifest : List ℕ) (r : ReleaseData) (reads : manifest_of manifest �
 -- nothing is made of a manifest with a fault
 pub none_made : (manifest : List ℕ) (f : ManifestFault) (text : List ℕ) (status : ℕ) → manifest_of manifest ≡ Err f → AsksFor plain (λ request. IsMade request (in_memory manifest) text status) → ⊥
 none_made manifest f text status refuses made =
-    subst (λ (m : Result ReleaseData ManifestFault). IsOkAnd m (λ r. IsReport format.Text (in_memory manifest) r text status)) refuses (made_report manifest text status made)
+    subst (λ (m : Result ReleaseData ManifestFault). IsOkAnd m (λ r. IsReport format.Text path manifest (in_memory manifest) r text status)) refuses (made_report manifest text status made)
 
 -- a status above 2, where it is neither below nor 2
 pub ends_above : (n : ℕ) (Same : Type 0) → n ≤ 4 → (n ≤ 1 → ⊥) → (n ≡ 2 → ⊥) → (n ≡ 3 → Same) → (n ≡ 4 → Same) → (3 ≤ n) × Same

@@ -1,5 +1,5 @@
 -- What a run of the program has written when it is done, and why it is refused. This project's choice.
-use Rattle.std.specs.Prelude.{◌≡◌, ◌≢◌, ◌⊎◌, ℕ, Bool, List, [], ◌++◌, Option, Some, None, IsOkAnd, Result, Ok, Err, codes, is_err, is_some, true, option_and_then, position, slice_get, if◌then◌else◌}
+use Rattle.std.specs.Prelude.{◌≡◌, ◌≢◌, ◌⊎◌, ℕ, Bool, List, [], ◌++◌, Option, Some, None, IsOkAnd, Result, Ok, Err, codes, is_err, length, is_some, true, option_and_then, position, slice_get, if◌then◌else◌}
 use Rattle.std.specs.Io.KnownBytes.{Appends}
 use Rattle.clap.specs.Words.{Text, subcommand_of}
 use Rattle.rim_manifest.specs.Manifest.{Answer, manifest_of, name_in}
@@ -9,10 +9,11 @@ use Rattle.rim_accepted.specs.Devicetree.{devicetree_of}
 use Rattle.rim_audit.specs.Listing.{listing_of, text_or_line}
 use Rattle.rim_audit.specs.Trace.{trace_of}
 use Rattle.rim_show.specs.ShownDevicetree.{IsDevicetreeFault, ShowsDevicetree}
-use Rattle.rim_report.specs.Json.{json_of}
-use Rattle.rim_accepted.specs.Lines.{has_refused}
+use Rattle.rim_json.specs.ReportJson.{report_text}
+use Rattle.rim_accepted.specs.Lines.{has_refused, outcomes_for}
 use Rattle.rim_audit.specs.Audit.{audit_text_of}
-use Rattle.rim_report.specs.Report.{measured_of, report_of, unless_too_many}
+use Rattle.rim_report.specs.Report.{measured_of, unless_too_many}
+use Rattle.rim_pages.specs.Pages.{page_keys}
 use Rattle.rim_show.specs.ShownImage.{image_answer_of}
 use Rattle.rim_accepted.specs.declared.audit_fault.AuditFault.{AuditFault}
 use Rattle.rim_accepted.specs.declared.audit_fault.AuditFault.TheVariants as audit
@@ -20,7 +21,7 @@ use Rattle.rim_show.specs.declared.fault.ShowFault.TheVariants as show
 use Rattle.rim_pages.specs.declared.fault.StartFault.{StartFault}
 use Rattle.rim_pages.specs.declared.fault.StartFault.TheVariants as start
 use Rattle.rim_check.specs.CheckJson.{check_json_of}
-use Rattle.rim_check.specs.Explained.{Explains, ShowsFaults, fault_in}
+use Rattle.rim_check.specs.Explained.{AreRefusals, Explains, ShowsFaults, fault_in}
 use Rattle.rim_check.specs.Warned.{ShowsWarnings}
 use Rattle.rim_check.specs.declared.found.ReleaseFault.{ReleaseFault}
 use Rattle.rim_check.specs.declared.found.ReleaseFault.TheVariants as release
@@ -50,19 +51,31 @@ use Rattle.rim_cli.specs.Status.{status_of}
 abbrev pub program : List ℕ
 program = codes "rim " ++ VERSION.now
 
--- the report of a release with these files, in a format
-abbrev pub report_in : Format → List (List ℕ) → ReleaseData → List ℕ
-report_in format.Text files r = report_of files r.launches
-report_in format.Json files r = json_of program files r
+-- the report as JSON of the release that a manifest with this path and these bytes describes, with these files
+pub record IsReportAsJson (path bytes : List ℕ) (files : List (List ℕ)) (r : ReleaseData) (shown : List ℕ) : Type 0 where
+  pub remarks : List (Option Remark)
+  pub why : AreRefusals files r.launches remarks
+  pub is : shown ≡ report_text (record {
+    program = program;
+    path = path;
+    bytes = bytes;
+    paths = r.paths;
+    files = files;
+    launches = r.launches;
+    news = record { outcomes = outcomes_for files r.launches; remarks = remarks };
+    pages = length (page_keys files r.launches);
+  })
 
-abbrev pub IsReportOf : Format → List (List ℕ) → ReleaseData → List ℕ → Type 0
-IsReportOf format files r shown = unless_too_many files r.launches (report_in format files r) ≡ Ok shown
+-- the report in a format, unless there are too many pages
+abbrev pub IsReportOf : Format → List ℕ → List ℕ → List (List ℕ) → ReleaseData → List ℕ → Type 0
+IsReportOf format.Text path bytes files r shown = measured_of files r.launches ≡ Ok shown
+IsReportOf format.Json path bytes files r shown = (unless_too_many files r.launches shown ≡ Ok shown) × IsReportAsJson path bytes files r shown
 
 -- the report of a release, where the files that it names are read, and the status that it ends with: 1 where some launch in it is refused
-pub record IsReport (format : Format) (held : List ℕ → Known) (r : ReleaseData) (shown : List ℕ) (answer : ℕ) : Type 0 where
+pub record IsReport (format : Format) (path bytes : List ℕ) (held : List ℕ → Known) (r : ReleaseData) (shown : List ℕ) (answer : ℕ) : Type 0 where
   pub files : List (List ℕ)
   pub read : AreRead held r.paths files
-  pub text : IsReportOf format files r shown
+  pub text : IsReportOf format path bytes files r shown
   pub status : answer ≡ (if has_refused files r.launches then 1 else 0)
 
 -- the audit of a release, in the same way
@@ -160,7 +173,7 @@ IsDevicetree held r name bytes status = OfLaunch held r name (λ l files. (devic
 
 -- the text that is asked of the file at a path and its status, where the file has these bytes
 abbrev pub IsAnswer : (List ℕ → Known) → Ask → List ℕ → List ℕ → List ℕ → ℕ → Type 0
-IsAnswer held (ask.Manifest (Measure workers format)) path bytes text status = IsOkAnd (manifest_of bytes) (λ r. IsReport format held r text status)
+IsAnswer held (ask.Manifest (Measure workers format)) path bytes text status = IsOkAnd (manifest_of bytes) (λ r. IsReport format path bytes held r text status)
 IsAnswer held (ask.Manifest Audit) path bytes text status = IsOkAnd (manifest_of bytes) (λ r. IsAudit held r text status)
 IsAnswer held (ask.Manifest (Check quiet format)) path bytes text status = IsCheckIn format held quiet path bytes text status
 IsAnswer held (ask.Launch name Lists) path bytes text status = IsOkAnd (manifest_of bytes) (λ r. IsListing held r name.now text status)

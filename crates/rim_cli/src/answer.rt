@@ -1,25 +1,29 @@
 //! The answer to a request, made whole.
-ghost use Rattle.std.specs.Prelude.{◌≡◌, ◌⊎◌, ◌<◌, ◌≤◌, Err, IfErr, IfOk, IsOkAnd, Ok, Some, if◌then◌else◌, length, map, position, true, vec_len};
-ghost use Rattle.rim_accepted.specs.Lines.{has_refused};
+ghost use Rattle.std.specs.Prelude.{◌≡◌, ◌⊎◌, ◌<◌, ◌≤◌, Err, IfErr, IfOk, IsOkAnd, Ok, Some, if◌then◌else◌, length, map, position, true};
+ghost use Rattle.ipa_layout.specs.Files.{bytes_of_files};
+ghost use Rattle.rim_accepted.specs.Lines.{has_refused, outcomes_for, seen};
+ghost use Rattle.rim_pages.specs.Pages.{page_keys};
 ghost use Rattle.rim_report.specs.Report.{measured_of};
 ghost use Rattle.rim_words.specs.Command.{HasCrew, IsCrew};
 ghost use Rattle.rim_manifest.specs.Manifest.{manifest_of};
 ghost use Rattle.rim_show.specs.ShownDevicetree.{ShowsDevicetree};
 ghost use Rattle.rim_show.specs.ShownImage.{image_answer_of};
-ghost use Rattle.rim_cli.specs.Done.{IsAnswer, IsAudit, IsDevicetree, IsListing, IsManifestFault, IsReport, IsReportOf, IsTrace, Refuses, RefusesAudit, RefusesDtb, RefusesFdt, RefusesImage, RefusesListing, RefusesManifest, RefusesReport};
+ghost use Rattle.rim_cli.specs.Done.{IsAnswer, IsAudit, IsDevicetree, IsListing, IsManifestFault, IsReport, IsReportAsJson, IsReportOf, IsTrace, Refuses, RefusesAudit, RefusesDtb, RefusesFdt, RefusesImage, RefusesListing, RefusesManifest, RefusesReport};
 ghost use Rattle.rim_cli.specs.Files.{AreRead, IfFile};
 
 use crate::checking::check;
 use crate::fault::Fault;
 use crate::file::{Opener, read_file, read_files};
-use crate::found::{read_launch, read_release};
+use crate::found::{read_launch, read_release, release_in};
 use crate::freed::keep_freed_memory;
 use crate::mapping::map;
 use crate::replaying::replay;
-use rim_check::MarkedLine;
+use refusal::NoMemory;
+use rim_check::{MarkedLine, refusals};
+use rim_json::json_report;
 use rim_release::{
-    Files, Gate, Lanes, LoadedRelease, Outcome, Release, Report, StartFault, audit_with_gate,
-    json_report, listing_or_refusal, measure_release, placed_devicetree, show_fdt, show_image,
+    AcceptedRelease, Gate, Lanes, LoadedRelease, Outcome, Report, StartFault, accept_all,
+    audit_with_gate, listing_or_refusal, measure_accepted, placed_devicetree, show_fdt, show_image,
     trace_or_refusal,
 };
 use rim_words::{Ask, FileAsk, Format, LaunchAsk, ManifestAsk, Request, VERSION};
@@ -148,58 +152,75 @@ fn measure<R: Threads + Wait + Sync, G: Gate + Sync, O: Opener>(
     requires { IsCrew workers }
     ensures answered { IfOk result (λ a. IfFile (O.held opener.old path.now) (λ bytes. IsOkAnd
         (manifest_of bytes)
-        (λ r. IsReport format (O.held opener.old) r a.text.items a.status))) }
+        (λ r. IsReport format path.now bytes (O.held opener.old) r a.text.items a.status))) }
     ensures refused { IfErr result
         (RefusesManifest (RefusesReport (O.held opener.old)) (O.held opener.old path.now)) }
     ensures status { IfOk result (λ a. a.status ≤ 1) }
 {
-    let release = read_release(alloc, opener, path)?;
+    let text = read_file(alloc, opener, path)?;
+    let release = release_in(alloc, text.as_slice())?;
     let files = read_files(alloc, opener, &release)?;
-    let report = report(rt, alloc, gate, &release, &files, workers, format).map_err(Fault::Start)?;
-    Ok(answer_of(report))
+    let loaded = LoadedRelease::new(&release, &files);
+    let report = report(rt, alloc, gate, path, &text, loaded, workers, format);
+    Ok(answer_of(report.map_err(Fault::Start)?))
 }
 
-/// The report of a release, made by 1 to 64 workers, in a format.
+/// The report of the release that a manifest describes, made by 1 to 64 workers, in a format.
 fn report<R: Threads + Wait + Sync, G: Gate + Sync>(
     rt: &R,
     alloc: Global,
     gate: &mut G,
-    release: &Release,
-    files: &Files,
+    path: &str,
+    bytes: &[u8],
+    loaded: LoadedRelease<'_>,
     workers: u8,
     format: Format,
 ) -> Result<Report, StartFault>
-    requires files { vec_len files.now ≡ length release.now.paths }
-    requires crew { IsCrew workers }
-    ensures text { IfOk result (λ r. IsReportOf format (map (λ file. file.items) files.now.items)
-        release.now r.text.items) }
-    ensures fault { IfErr result (λ e. (e ≡ StartFault.NoMemory)
-        ⊎ (measured_of (map (λ file. file.items) files.now.items) release.now.launches
-        ≡ Err e)) }
-    ensures refused { IfOk result (λ r. r.has_refused
-        ≡ has_refused (map (λ file. file.items) files.now.items) release.now.launches) }
+    requires { IsCrew workers }
+    ensures text { IfOk result (λ r. IsReportOf format path.now bytes.now
+        (bytes_of_files loaded.entry.files.now) loaded.entry.release.now r.text.items) }
+    ensures fault { IfErr result (λ e. (e ≡ StartFault.NoMemory) ⊎ (measured_of
+        (bytes_of_files loaded.entry.files.now) loaded.entry.release.now.launches ≡ Err e)) }
+    ensures refused { IfOk result (λ r. r.has_refused ≡ has_refused
+        (bytes_of_files loaded.entry.files.now) loaded.entry.release.now.launches) }
 {
-    let Outcome {
-        report,
-        launches,
-        has_refused,
-        pages,
-        ..
-    } = measure_release(rt, alloc, gate, release, files, workers as usize)?;
+    let accepted = accept_all(alloc, loaded)?;
+    let outcome = measure_accepted(rt, alloc, gate, &accepted, workers as usize)?;
+    let has_refused = outcome.has_refused;
     let text = match format {
-        Format::Text => report,
-        Format::Json => {
-            let program = format!(in alloc; "rim {VERSION}")?;
-            json_report(
-                alloc,
-                &program,
-                LoadedRelease::new(release, files),
-                &launches,
-                pages,
-            )?
-        }
+        Format::Text => outcome.report,
+        Format::Json => report_as_json(alloc, path, bytes, &accepted, &outcome)?,
     };
     Ok(Report { text, has_refused })
+}
+
+/// The report as JSON.
+fn report_as_json(
+    alloc: Global,
+    path: &str,
+    bytes: &[u8],
+    accepted: &AcceptedRelease<'_>,
+    outcome: &Outcome,
+) -> Result<Vec<u8>, NoMemory>
+    requires launches { map seen outcome.now.launches.items
+        ≡ outcomes_for accepted.now.files accepted.now.release.launches }
+    requires pages { outcome.now.pages
+        ≡ length (page_keys accepted.now.files accepted.now.release.launches) }
+    ensures { IfOk result (λ text. IsReportAsJson path.now bytes.now
+        accepted.now.files accepted.now.release text.items) }
+{
+    let program = format!(in alloc; "rim {VERSION}")?;
+    let remarks = refusals(alloc, accepted)?;
+    json_report(
+        alloc,
+        &program,
+        path,
+        bytes,
+        accepted,
+        &outcome.launches,
+        &remarks,
+        outcome.pages,
+    )
 }
 
 /// The listing of a manifest's launch, or its line where it is refused.

@@ -2,7 +2,7 @@
 ghost use Rattle.std.specs.Prelude.{◌≡◌, ◌<◌, IfErr, IfOk, Ok, Some, length, map, position, vec_len};
 ghost use Rattle.rim_manifest.specs.Manifest.{manifest_of, name_in};
 ghost use Rattle.rim_cli.specs.Done.{IsManifestFault, RefusesListing, RefusesManifest};
-ghost use Rattle.rim_cli.specs.Files.{AreRead, IfFile};
+ghost use Rattle.rim_cli.specs.Files.{AreRead, IfFile, IsRead, Known};
 
 use crate::fault::Fault;
 use crate::file::{Opener, read_file, read_files};
@@ -21,7 +21,16 @@ pub(crate) fn read_release<O: Opener>(
     ensures stays { O.held opener.new ≡ O.held opener.old }
 {
     let text = read_file(alloc, opener, path)?;
-    match read_manifest(alloc, text.as_slice()) {
+    release_in(alloc, text.as_slice())
+}
+
+/// The release that the bytes of a manifest describe.
+pub(crate) fn release_in(alloc: Global, bytes: &[u8]) -> Result<Release, Fault>
+    ensures read { IfOk result (λ r. manifest_of bytes.now ≡ Ok r) }
+    ensures fault { IfErr result (λ e. (known : Known) → IsRead known bytes.now
+        → IsManifestFault known e) }
+{
+    match read_manifest(alloc, bytes) {
         Ok(release) => Ok(release),
         Err(fault) => Err(Fault::Manifest(fault)),
     }

@@ -1,12 +1,9 @@
 -- The JSON of a map is made part by part, and has no float.
-use Rattle.std.proofs.Common.{◌≡◌, ◌∙◌, ◌⊎◌, inl, inr, ℕ, false, List, [], ◌∷◌, ◌++◌, codes, length, map, refl, ap, sym, subst, arith}
-use Rattle.std.specs.Prelude.{Option, Some, None}
-use Rattle.std.proofs.lemmas.List.{append-nil}
+use Rattle.std.proofs.Common.{◌≡◌, ◌∙◌, ℕ, false, List, [], ◌∷◌, ◌++◌, codes, map, refl, ap, sym, subst}
+use Rattle.std.specs.Prelude.{None}
 use Rattle.serde_json.specs.Data.{Data}
 use Rattle.serde_json.specs.View.{items_of}
 use Rattle.serde_json.specs.Written.{compact_text, has_float, items_have_float}
-use Rattle.rim_desc.specs.declared.rule.RecRule.{RecRule}
-use Rattle.rim_launch.specs.declared.item.Item.{Item}
 use Rattle.rim_launch.specs.declared.item.Region.{Region}
 use Rattle.ipa_layout.specs.Layout.{PlacedData}
 use Rattle.rmi_list.specs.Measured.{measured, page_contents}
@@ -15,8 +12,8 @@ use Rattle.map_rows.specs.Extensions.{extensions_of}
 use Rattle.map_rows.specs.Granules.{HasGranules}
 use Rattle.map_rows.specs.Rows.{rows_of}
 use Rattle.rim_map.specs.inside.Spaces.{IsSpace}
-use Rattle.rim_map.specs.MapJson.{IsMap, SpaceView, extensions_json, granules_json, item_json, items_json, launch_json}
-use Rattle.rim_map.specs.MapJson.{map_data, path_json, place_json, region_json, regions_json, rule_json, space_of, stretch_json}
+use Rattle.rim_map.specs.MapJson.{IsMap, SpaceView, extensions_json, granules_json, launch_json, map_data, region_json, regions_json, space_of}
+use Rattle.launch_json.proofs.ItemsAsJson.{items-float, rule-float, stretches-float}
 use Rattle.map_rows.specs.Stretches.{AreRising, gaps_of, row_pages}
 use Rattle.map_rows.specs.declared.extensions.Extensions.{Extensions}
 use Rattle.map_rows.specs.declared.granules.Granules.{Granules}
@@ -26,40 +23,12 @@ use Rattle.shown_text.proofs.RemarksAsJson.{remarks-float}
 use Rattle.shown_text.specs.RemarkJson.{remark_json}
 use Rattle.shown_text.specs.declared.remark.Remark.{Remark}
 
--- after the last item all were made
-pub items-over : (name : ℕ → List ℕ) (paths : List (List ℕ)) (items : List Item) (rows : List Row) (now all : List Data)
-    → (length items ≡ 0) ⊎ (length rows ≡ 0) → now ++ items_json name paths items rows ≡ all → now ≡ all
-items-over name paths [] rows now all over so_far = sym (append-nil now) ∙ so_far
-items-over name paths (item ∷ items) [] now all over so_far = sym (append-nil now) ∙ so_far
-items-over name paths (item ∷ items) (row ∷ rows) now all (inl none) so_far = absurd (omega (arith, none))
-items-over name paths (item ∷ items) (row ∷ rows) now all (inr none) so_far = absurd (omega (arith, none))
-
 -- ---- no part has a float
-
-pub stretches-float : (ss : List Stretch) → items_have_float (items_of (map stretch_json ss)) ≡ false
-unfolding stretch_json
-stretches-float [] = refl
-stretches-float (s ∷ ss) = stretches-float ss
 
 pub regions-float : (taken : List Stretch) (ram : List Region) → items_have_float (items_of (regions_json taken ram)) ≡ false
 unfolding region_json
 regions-float taken [] = refl
 regions-float taken (r ∷ ram) = rw (stretches-float (gaps_of r.base r.end taken)) (regions-float taken ram)
-
-pub path-float : (o : Option (List ℕ)) → has_float (path_json o) ≡ false
-path-float None = refl
-path-float (Some path) = refl
-
-pub rule-float : (o : Option RecRule) → has_float (rule_json o) ≡ false
-rule-float None = refl
-rule-float (Some rule) = refl
-
-pub items-float : (name : ℕ → List ℕ) (paths : List (List ℕ)) (items : List Item) (rows : List Row)
-    → items_have_float (items_of (items_json name paths items rows)) ≡ false
-unfolding item_json place_json
-items-float name paths [] rows = refl
-items-float name paths (item ∷ items) [] = refl
-items-float name paths (item ∷ items) (row ∷ rows) = rw (path-float _) (items-float name paths items rows)
 
 -- and no map
 pub no-float : (paths : List (List ℕ)) (l : NamedData) (rows : List Row) (taken between : List Stretch) (granules : Granules) (extensions : Extensions)
@@ -69,7 +38,7 @@ unfolding map_data granules_json extensions_json launch_json
 no-float paths l rows taken between granules extensions warnings =
     rw (
       stretches-float between,
-      items-float (item_name l) paths l.launch.items rows,
+      items-float None (item_name l) paths l.launch.items rows,
       rule-float l.launch.config.rec_rule,
       regions-float taken l.launch.ram,
       remarks-float warnings,

@@ -1,21 +1,16 @@
 -- The map of a launch as JSON. Members are in the order of their keys. This project's choice.
-use Rattle.std.specs.Prelude.{◌≡◌, ℕ, ◌-◌, ◌/◌, List, [], ◌∷◌, ◌++◌, codes, length, map, Option, Some, None, option_and_then}
-use Rattle.std.specs.List.{slice_get}
-use Rattle.serde_json.specs.Data.{Data, array, boolean, member, no_members, null, number, object, string, unsigned}
+use Rattle.std.specs.Prelude.{◌≡◌, ◌-◌, ◌/◌, ℕ, List, [], ◌∷◌, ◌++◌, codes, length, map, None}
+use Rattle.serde_json.specs.Data.{Data, array, member, no_members, object, string}
 use Rattle.serde_json.specs.View.{items_of}
 use Rattle.serde_json.specs.Written.{compact_text}
 use Rattle.rim_desc.specs.Measurement.{algo_word}
-use Rattle.rim_desc.specs.Rule.{rule_word}
 use Rattle.rim_desc.specs.declared.page.TheConstants.{PAGE_SIZE}
-use Rattle.rim_desc.specs.declared.rule.RecRule.{RecRule}
-use Rattle.rim_launch.specs.Kinds.{file_of, has_edits, role_of}
 use Rattle.rim_launch.specs.declared.config.Config.{Config}
-use Rattle.rim_launch.specs.declared.item.Item.{Item}
 use Rattle.rim_launch.specs.declared.item.Region.{Region}
 use Rattle.ipa_layout.specs.Layout.{PlacedData}
 use Rattle.rmi_list.specs.Measured.{measured, page_contents}
 use Rattle.rim_manifest.specs.Launches.{NamedData, item_name}
-use Rattle.rim_rules.specs.Kinds.{kind_word}
+use Rattle.launch_json.specs.Items.{count, items_json, rule_json, stretch_json}
 use Rattle.map_rows.specs.Extensions.{extensions_of}
 use Rattle.map_rows.specs.Granules.{HasGranules}
 use Rattle.map_rows.specs.Rows.{rows_of}
@@ -27,22 +22,6 @@ use Rattle.map_rows.specs.declared.stretches.Stretch.{Stretch}
 use Rattle.shown_text.specs.RemarkJson.{remark_json}
 use Rattle.shown_text.specs.declared.remark.Remark.{Remark}
 
-abbrev pub count : ℕ → Data
-count n = number (unsigned n)
-
--- a path, or null where there is none
-abbrev pub path_json : Option (List ℕ) → Data
-path_json None = null
-path_json (Some path) = string path
-
--- the word of a rule for RECs, or null where there is none
-abbrev pub rule_json : Option RecRule → Data
-rule_json None = null
-rule_json (Some rule) = string (rule_word rule)
-
-unfoldable pub stretch_json : Stretch → Data
-stretch_json s = object (member (codes "base") (count s.base) (member (codes "end") (count s.end) no_members))
-
 -- a region, with the gaps between its items where items take these stretches
 unfoldable pub region_json : List Stretch → Region → Data
 region_json taken r =
@@ -52,26 +31,6 @@ region_json taken r =
 
 abbrev pub regions_json : List Stretch → List Region → List Data
 regions_json taken ram = map (region_json taken) ram
-
--- where an item is, and how large it is
-unfoldable pub place_json : Row → Data
-place_json row =
-    object (member (codes "address") (count row.item.address) (member (codes "bytes") (count row.bytes) (member (codes "end") (count row.end)
-    (member (codes "lead") (count row.item.lead) (member (codes "pages") (count row.item.pages) no_members)))))
-
--- an item at its place, where items have these names and files these paths
-unfoldable pub item_json : (ℕ → List ℕ) → List (List ℕ) → Item → Row → Data
-item_json name paths item row =
-    object (member (codes "edited") (boolean (has_edits item.kind))
-    (member (codes "file") (path_json (option_and_then (slice_get paths) (file_of item.kind)))
-    (member (codes "kind") (string (kind_word (role_of item.kind))) (member (codes "measured") (boolean row.item.measured)
-    (member (codes "name") (string (name row.number)) (member (codes "place") (place_json row) no_members))))))
-
--- the items of a launch at their places, in its order
-abbrev pub items_json : (ℕ → List ℕ) → List (List ℕ) → List Item → List Row → List Data
-items_json name paths [] rows = []
-items_json name paths (item ∷ items) [] = []
-items_json name paths (item ∷ items) (row ∷ rows) = item_json name paths item row ∷ items_json name paths items rows
 
 unfoldable pub granules_json : Config → Granules → Data
 granules_json c g =
@@ -111,7 +70,7 @@ map_data l space granules extensions warnings =
 abbrev pub space_of : List (List ℕ) → NamedData → List Row → List Stretch → List Stretch → SpaceView
 space_of paths l rows taken between = record {
   gaps = map stretch_json between;
-  items = items_json (item_name l) paths l.launch.items rows;
+  items = items_json None (item_name l) paths l.launch.items rows;
   regions = regions_json taken l.launch.ram;
 }
 

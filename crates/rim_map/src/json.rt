@@ -1,17 +1,15 @@
 //! The map of a launch as JSON.
-ghost use Rattle.std.specs.Prelude.{◌≡◌, ◌++◌, IfOk, OnOk, codes, false, map};
+ghost use Rattle.std.specs.Prelude.{◌≡◌, IfOk, OnOk, codes, map};
 ghost use Rattle.serde_json.specs.Data.{put as with_member};
 ghost use Rattle.serde_json.specs.View.{members_view, view};
-ghost use Rattle.serde_json.specs.Written.{compact_text, has_float};
 ghost use Rattle.ipa_layout.specs.Files.{bytes_of_files};
-ghost use Rattle.rim_map.specs.MapJson.{IsMap, count, extensions_json, granules_json, launch_json, map_data};
+ghost use Rattle.launch_json.specs.Items.{count};
+ghost use Rattle.rim_map.specs.MapJson.{IsMap, extensions_json, granules_json, launch_json, map_data};
 ghost use Rattle.rim_map.specs.inside.Shared.{with_space};
 ghost use Rattle.rim_map.specs.inside.Spaces.{IsSpace, seen_space};
 
-use crate::json_parts::{
-    extensions_value, granules_value, item_values, launch_value, region_values, stretch_values,
-};
-use crate::members::{Members, put_count, put_values};
+use crate::json_parts::{extensions_value, granules_value, launch_value, region_values};
+use launch_json::{Members, item_values, json_text, put_count, put_values, stretch_values};
 use map_rows::{
     Extensions, Granules, Row, Shown, between, count_extensions, count_granules, item_rows, taken,
 };
@@ -45,17 +43,7 @@ pub fn map_json(
     let rows = item_rows(alloc, launch.launch(), accepted.files(), accepted.placed())?;
     let space = placed_space(alloc, shown, &rows)?;
     let value = map_value(alloc, launch, space, &granules, &extensions, warnings)?;
-    text(alloc, &value)
-}
-
-/// A JSON value as a line.
-pub(crate) fn text(alloc: Global, value: &Value) -> Result<Vec<u8>, NoMemory>
-    ensures { IfOk result (λ text. has_float (view value.now) ≡ false
-        → text.items ≡ compact_text (view value.now) ++ codes "\n") }
-{
-    let mut text = value.to_string(alloc)?.into_bytes();
-    text.push(b'\n')?;
-    Ok(text)
+    json_text(alloc, &value)
 }
 
 /// The address space of a launch as JSON values.
@@ -76,7 +64,7 @@ pub(crate) fn placed_space(alloc: Global, shown: Shown<'_>, rows: &[Row]) -> Res
     let gaps = between(alloc, launch.ram())?;
     Ok(Space {
         gaps: stretch_values(alloc, &gaps)?,
-        items: item_values(alloc, shown, launch.items(), rows)?,
+        items: item_values(alloc, shown, None, rows)?,
         regions: region_values(alloc, launch.ram(), &taken)?,
     })
 }

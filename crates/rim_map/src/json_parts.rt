@@ -1,42 +1,18 @@
 //! The parts of a map as JSON values. Members are in the order of their names.
-ghost use Rattle.std.specs.Prelude.{◌≡◌, ◌<◌, [], ◌∷◌, IfOk, OnOk, codes, map, option_map};
+ghost use Rattle.std.specs.Prelude.{◌≡◌, [], ◌∷◌, IfOk, OnOk, codes, map};
 ghost use Rattle.serde_json.specs.Data.{array, no_members, object, put as with_member};
 ghost use Rattle.serde_json.specs.View.{items_of, members_view, view};
-ghost use Rattle.rim_manifest.specs.Launches.{item_name};
 ghost use Rattle.map_rows.specs.Stretches.{gaps_of};
-ghost use Rattle.rim_map.specs.inside.Shared.{item_members};
-ghost use Rattle.rim_map.specs.MapJson.{count, extensions_json, granules_json, item_json, items_json, launch_json, path_json, place_json, region_json, regions_json, rule_json, stretch_json};
+ghost use Rattle.launch_json.specs.Items.{count, rule_json, stretch_json};
+ghost use Rattle.rim_map.specs.MapJson.{extensions_json, granules_json, launch_json, region_json, regions_json};
 
-use crate::members::{Members, put_count, put_flag, put_text, put_values};
-use map_rows::{Extensions, Granules, Row, Shown, Stretch, gaps, path_of};
+use launch_json::{Members, put_count, put_text, put_values, rule_value, stretch_values};
+use map_rows::{Extensions, Granules, Stretch, gaps};
 use rim_desc::{GRANULE_SIZE, RecRule};
-use rim_launch::{Config, Item, Region};
+use rim_launch::{Config, Region};
 use rim_manifest::NamedLaunch;
-use rim_rules::kind::kind_word;
 use serde_json::{Map, Value, json, put};
 use std::alloc::{AllocError, Global};
-
-/// Stretches of addresses.
-pub(crate) fn stretch_values(alloc: Global, stretches: &[Stretch]) -> Result<Vec<Value>, AllocError>
-    ensures { IfOk result (λ values. map view values.items ≡ map stretch_json stretches.now) }
-{
-    let mut values = Vec::with_capacity(alloc, stretches.len())?;
-    for stretch in stretches {
-        values.push(stretch_value(alloc, stretch)?)?;
-    }
-    Ok(values)
-}
-
-/// A stretch of addresses.
-#[tactic(auto, unfolding(crate::specs::MapJson::stretch_json))]
-fn stretch_value(alloc: Global, stretch: &Stretch) -> Result<Value, AllocError>
-    ensures { IfOk result (λ v. view v ≡ stretch_json stretch.now) }
-{
-    let mut members = Map::new(alloc);
-    put_count(alloc, &mut members, "base", stretch.base)?;
-    put_count(alloc, &mut members, "end", stretch.end)?;
-    Ok(Value::Object(members))
-}
 
 /// Regions of RAM, of which items take these stretches.
 pub(crate) fn region_values(
@@ -97,97 +73,6 @@ fn put_gaps(
     put_values(alloc, members, "gaps", values)
 }
 
-/// The items of a launch at their places.
-pub(crate) fn item_values(
-    alloc: Global,
-    shown: Shown<'_>,
-    items: &[Item],
-    rows: &[Row],
-) -> Result<Vec<Value>, AllocError>
-    ensures { IfOk result
-        (λ values. map view values.items ≡ items_json (item_name shown.entry.launch.now)
-        shown.entry.release.now.paths items.now rows.now) }
-{
-    let mut values = Vec::with_capacity(alloc, rows.len())?;
-    for (item, row) in items.iter().zip(rows.iter()) {
-        values.push(item_value(alloc, shown, item, row)?)?;
-    }
-    Ok(values)
-}
-
-/// An item at its place.
-#[tactic(auto, unfolding(crate::specs::MapJson::item_json))]
-fn item_value(alloc: Global, shown: Shown<'_>, item: &Item, row: &Row) -> Result<Value, AllocError>
-    ensures { IfOk result (λ v. view v
-        ≡ item_json (item_name shown.entry.launch.now) shown.entry.release.now.paths
-        item.now row.now) }
-{
-    let mut members = Map::new(alloc);
-    put_item(
-        alloc,
-        &mut members,
-        shown,
-        item,
-        row.number,
-        row.item.measured,
-    )?;
-    let place = place_value(alloc, row)?;
-    put(&mut members, alloc, "place", place)?;
-    Ok(Value::Object(members))
-}
-
-/// Adds what is shown of the item of a number, but for its place.
-pub(crate) fn put_item(
-    alloc: Global,
-    members: &mut Members,
-    shown: Shown<'_>,
-    item: &Item,
-    number: usize,
-    is_measured: bool,
-) -> Result<(), AllocError>
-    requires { members_view members.old.entries ≡ no_members }
-    ensures { OnOk result (members_view members.new.entries
-        ≡ item_members (item_name shown.entry.launch.now) shown.entry.release.now.paths number
-        item.now is_measured) }
-{
-    put_flag(alloc, members, "edited", item.kind.has_edits())?;
-    put_path(alloc, members, path_of(shown.release, item))?;
-    put_text(alloc, members, "kind", kind_word(item.kind.role()))?;
-    put_flag(alloc, members, "measured", is_measured)?;
-    put_text(alloc, members, "name", shown.launch.item_name(number))
-}
-
-/// Adds the path of an item's file.
-fn put_path(alloc: Global, members: &mut Members, path: Option<&str>) -> Result<(), AllocError>
-    ensures { OnOk result (members_view members.new.entries ≡ with_member (codes "file")
-        (path_json (option_map (λ path. path.now) path.entry)) (members_view members.old.entries)) }
-{
-    let file = path_value(alloc, path)?;
-    put(members, alloc, "file", file)
-}
-
-/// Where an item is, and how large it is.
-fn place_value(alloc: Global, row: &Row) -> Result<Value, AllocError>
-    ensures { IfOk result (λ v. view v ≡ place_json row.now) }
-{
-    let mut members = Map::new(alloc);
-    put_place(alloc, &mut members, row)?;
-    Ok(Value::Object(members))
-}
-
-/// Adds the members of a place.
-#[tactic(auto, unfolding(crate::specs::MapJson::place_json))]
-fn put_place(alloc: Global, members: &mut Members, row: &Row) -> Result<(), AllocError>
-    requires { members_view members.old.entries ≡ no_members }
-    ensures { OnOk result (object (members_view members.new.entries) ≡ place_json row.now) }
-{
-    put_count(alloc, members, "address", row.item.address)?;
-    put_count(alloc, members, "bytes", row.bytes)?;
-    put_count(alloc, members, "end", row.end)?;
-    put_count(alloc, members, "lead", row.item.lead)?;
-    put_count(alloc, members, "pages", row.item.pages)
-}
-
 /// What a launch is.
 pub(crate) fn launch_value(alloc: Global, launch: &NamedLaunch) -> Result<Value, AllocError>
     ensures { IfOk result (λ v. view v ≡ launch_json launch.now) }
@@ -221,26 +106,6 @@ fn put_rule(alloc: Global, members: &mut Members, rule: Option<RecRule>) -> Resu
 {
     let rule = rule_value(alloc, rule)?;
     put(members, alloc, "rec_rule", rule)
-}
-
-/// A path, or null where there is none.
-fn path_value(alloc: Global, path: Option<&str>) -> Result<Value, AllocError>
-    ensures { IfOk result (λ v. view v ≡ path_json (option_map (λ path. path.now) path.entry)) }
-{
-    match path {
-        Some(path) => json!(in alloc; path),
-        None => Ok(Value::Null),
-    }
-}
-
-/// The rule for RECs, or null where there is none.
-fn rule_value(alloc: Global, rule: Option<RecRule>) -> Result<Value, AllocError>
-    ensures { IfOk result (λ v. view v ≡ rule_json rule) }
-{
-    match rule {
-        Some(rule) => json!(in alloc; rule.word()),
-        None => Ok(Value::Null),
-    }
 }
 
 /// The granules that are taken from the pool of a configuration.

@@ -4,7 +4,6 @@
 
 mod json;
 mod json_parts;
-mod members;
 mod refused;
 
 pub use json::map_json;

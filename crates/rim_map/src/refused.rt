@@ -1,24 +1,22 @@
 //! The map of a launch that is refused, as far as it goes: the items at their places where its list is refused, and as the manifest
 //! states them where it cannot be laid out. What its lines show before the last one is tested alone.
-ghost use Rattle.std.specs.Prelude.{◌≡◌, IfOk, OnOk, codes, map};
+ghost use Rattle.std.specs.Prelude.{◌≡◌, IfOk, OnOk, codes};
 ghost use Rattle.serde_json.specs.Data.{put as with_member, string};
 ghost use Rattle.serde_json.specs.View.{members_view, view};
 ghost use Rattle.ipa_layout.specs.Files.{bytes_of_files};
 ghost use Rattle.rim_accepted.specs.AuditFaults.{audit_kind_of};
 ghost use Rattle.rim_accepted.specs.Reasons.{audit_fault_of};
-ghost use Rattle.rim_manifest.specs.Launches.{item_name};
-ghost use Rattle.rim_map.specs.RefusedMap.{EndsWithRemark, IsRefusedMap, ShowsSpace, refused_data, size_json, stated_item_json, stated_items_json, stated_json};
+ghost use Rattle.rim_map.specs.RefusedMap.{EndsWithRemark, IsRefusedMap, ShowsSpace, refused_data};
 ghost use Rattle.rim_map.specs.inside.Spaces.{IsStated, seen_space};
 ghost use Rattle.shown_text.specs.RemarkJson.{remark_json};
 
-use crate::json::{Space, placed_space, put_head, put_space, text};
-use crate::json_parts::{put_item, region_values, stretch_values};
-use crate::members::{Members, put_count, put_text};
+use crate::json::{Space, placed_space, put_head, put_space};
+use crate::json_parts::region_values;
+use launch_json::{Members, json_text, put_text, stated_values, stretch_values};
 use map_rows::{Shown, between, item_rows};
 use map_text::{Lines, push_head, push_ram, push_space, push_stated};
 use refusal::NoMemory;
 use rim_accepted::LaunchReason;
-use rim_launch::Item;
 use rim_manifest::{NamedLaunch, Release};
 use serde_json::{Map, Value, put};
 use shown_text::{Remark, remark_value};
@@ -85,7 +83,7 @@ pub fn refused_json(
 {
     let space = shown_space(alloc, release, refused)?;
     let value = refused_value(alloc, refused, space)?;
-    text(alloc, &value)
+    json_text(alloc, &value)
 }
 
 /// The address space of a launch, as far as it is known.
@@ -117,61 +115,9 @@ fn space_as_stated(alloc: Global, shown: Shown<'_>) -> Result<Space, NoMemory>
     let gaps = between(alloc, launch.ram())?;
     Ok(Space {
         gaps: stretch_values(alloc, &gaps)?,
-        items: stated_values(alloc, shown, launch.items())?,
+        items: stated_values(alloc, shown, None)?,
         regions: region_values(alloc, launch.ram(), &[])?,
     })
-}
-
-/// Items as the manifest states them.
-fn stated_values(alloc: Global, shown: Shown<'_>, items: &[Item]) -> Result<Vec<Value>, AllocError>
-    ensures { IfOk result (λ values. map view values.items
-        ≡ stated_items_json (item_name shown.entry.launch.now) shown.entry.release.now.paths
-        0 items.now) }
-{
-    let mut values = Vec::with_capacity(alloc, items.len())?;
-    for item in items {
-        values.push(stated_value(alloc, shown, values.len(), item)?)?;
-    }
-    Ok(values)
-}
-
-/// The item of a number as the manifest states it.
-#[tactic(auto, unfolding(crate::specs::RefusedMap::stated_item_json))]
-fn stated_value(
-    alloc: Global,
-    shown: Shown<'_>,
-    number: usize,
-    item: &Item,
-) -> Result<Value, AllocError>
-    ensures { IfOk result (λ v. view v ≡ stated_item_json (item_name shown.entry.launch.now)
-        shown.entry.release.now.paths number item.now) }
-{
-    let mut members = Map::new(alloc);
-    put_item(alloc, &mut members, shown, item, number, item.measured)?;
-    let stated = stated_place(alloc, item)?;
-    put(&mut members, alloc, "stated", stated)?;
-    Ok(Value::Object(members))
-}
-
-/// Where the manifest asks for an item, and how large it says that it is.
-#[tactic(auto, unfolding(crate::specs::RefusedMap::stated_json))]
-fn stated_place(alloc: Global, item: &Item) -> Result<Value, AllocError>
-    ensures { IfOk result (λ v. view v ≡ stated_json item.now) }
-{
-    let mut members = Map::new(alloc);
-    put_count(alloc, &mut members, "at", item.at)?;
-    put(&mut members, alloc, "size", size_value(item.size))?;
-    Ok(Value::Object(members))
-}
-
-/// A size, or null where none is stated.
-fn size_value(size: Option<u64>) -> Value
-    ensures { view result ≡ size_json size }
-{
-    match size {
-        Some(size) => Value::from(size),
-        None => Value::Null,
-    }
 }
 
 /// The map as a JSON value.

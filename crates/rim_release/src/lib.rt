@@ -4,8 +4,8 @@
 pub use job_board::JobId;
 pub use job_workers::{FreeGate, Gate};
 pub use rim_accepted::{
-    AuditFault, Files, LoadedLaunch, LoadedRelease, Report, a_line_says_what_a_monitor_holds,
-    devicetrees_are_measured, placed_devicetree,
+    AcceptedRelease, AuditFault, Files, LoadedLaunch, LoadedRelease, Report,
+    a_line_says_what_a_monitor_holds, accept_all, devicetrees_are_measured, placed_devicetree,
 };
 pub use rim_audit::{
     a_trace_shows_what_a_monitor_holds, audit, audit_launches, audit_report, audit_with_gate,
@@ -16,7 +16,7 @@ pub use rim_launch::{Config, Launch};
 pub use rim_manifest::{ManifestFault, NamedLaunch, Release, read_manifest};
 pub use rim_replay::{ReplayFault, refused_kind, replay};
 pub use rim_report::{
-    Outcome, StartFault, a_value_is_its_launchs_rim, json_report, measure_alone, measure_release,
-    report_alone, values_make_the_lines,
+    Outcome, StartFault, a_value_is_its_launchs_rim, measure_accepted, measure_alone,
+    measure_release, report_alone, values_make_the_lines,
 };
 pub use rim_show::{ShowFault, show_fdt, show_image};

@@ -5,8 +5,6 @@ pub mod PlansInTurn
 pub mod FilledSlots
 -- THE VALUES: with the digests of that table each launch chains to what a monitor holds after its list of commands,
 pub mod ChainsAreRims
--- and the report as JSON is made launch by launch
-pub mod ReportAsJson
 -- The length of a report does not depend on measurements, so it is known before hashing.
 pub mod LengthOfReport
 -- Laws: any legal list of events that does all jobs gives the lines of the report

@@ -3,7 +3,6 @@
 
 mod chains;
 mod hashing;
-mod json;
 mod laws;
 mod one_thread;
 mod outcomes;
@@ -12,9 +11,8 @@ mod plans;
 mod report;
 mod workers;
 
-pub use json::json_report;
 pub use laws::{a_value_is_its_launchs_rim, values_make_the_lines};
 pub use one_thread::{measure_alone, report_alone};
 pub use plans::accepted_plans;
 pub use rim_pages::{DISTINCT_LIMIT, MeasuredPages, StartFault};
-pub use workers::{Outcome, measure_release};
+pub use workers::{Outcome, measure_accepted, measure_release};

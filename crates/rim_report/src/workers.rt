@@ -1,5 +1,5 @@
 //! The report of a release, made by workers.
-ghost use Rattle.std.specs.Prelude.{◌≡◌, ◌≤◌, Err, IfOk, OnErr, OnOk, false, length, map, sum, vec_len};
+ghost use Rattle.std.specs.Prelude.{◌≡◌, ◌≤◌, Err, IfOk, OnErr, OnOk, false, length, map, sum, true, vec_len};
 ghost use Rattle.std.specs.List.{All, Contains};
 ghost use Rattle.refusal.specs.Answer.{Answers};
 ghost use Rattle.ipa_layout.specs.Files.{bytes_of_files};
@@ -20,7 +20,7 @@ use job_board::{BoardState, Run, WORKER_LIMIT};
 use job_workers::{Board, Gate, run_workers};
 use page_jobs::{Page, Table};
 use refusal::NoMemory;
-use rim_accepted::{AuditFault, Files, LoadedRelease, accept_all, has_refused};
+use rim_accepted::{AcceptedRelease, AuditFault, Files, LoadedRelease, accept_all, has_refused};
 use rim_chain::LaunchPlan;
 use rim_desc::Measurement;
 use rim_manifest::Release;
@@ -86,10 +86,35 @@ pub fn measure_release<G: Gate + Sync, R: Threads + Wait + Sync>(
         return Err(StartFault::Workers);
     }
     let accepted = accept_all(alloc, LoadedRelease::new(release, files))?;
-    let plans = accepted_plans(alloc, &accepted)?;
-    let pages = pages(alloc, &accepted)?;
+    measure_accepted(rt, alloc, gate, &accepted, workers)
+}
+
+/// The same of a release whose launches are accepted or refused already.
+pub fn measure_accepted<G: Gate + Sync, R: Threads + Wait + Sync>(
+    rt: &R,
+    alloc: Global,
+    gate: &mut G,
+    accepted: &AcceptedRelease<'_>,
+    workers: usize,
+) -> Result<Outcome, StartFault>
+    requires crew { is_crew workers ≡ true }
+    ensures report { Answers StartFault.NoMemory (λ o. o.report.items) result
+        (started_of workers accepted.now.files accepted.now.release.launches) }
+    ensures launches { IfOk result (λ o. map seen o.launches.items
+        ≡ outcomes_for accepted.now.files accepted.now.release.launches) }
+    ensures refused { IfOk result (λ o. o.has_refused
+        ≡ has_refused accepted.now.files accepted.now.release.launches) }
+    ensures pages { IfOk result (λ o. o.pages
+        ≡ length (page_keys accepted.now.files accepted.now.release.launches)) }
+    ensures shares { IfOk result
+        (λ o. (vec_len o.shares ≡ workers) × (sum o.shares.items ≡ o.pages)) }
+    ensures started { IfOk result (λ o. (1 ≤ o.started) × (o.started ≤ workers)) }
+    ensures unstarted { OnErr result (gate.new ≡ gate.old) }
+{
+    let plans = accepted_plans(alloc, accepted)?;
+    let pages = pages(alloc, accepted)?;
     let mut rims = vec![in alloc; UNKNOWN; plans.len()]?;
-    let pending_report = PendingReport::new(alloc, &accepted, pages.len())?;
+    let pending_report = PendingReport::new(alloc, accepted, pages.len())?;
     let counted = run::<Brand, G, R>(
         rt,
         alloc,

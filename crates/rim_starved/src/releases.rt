@@ -6,13 +6,14 @@ use crate::inputs::{files_of, split};
 use crate::trial::{Fault, Seen, Trial, digest, made, remarks_digest, text_digest, tried};
 use refusal::NoMemory;
 use rim_accepted::accept_with_list;
-use rim_check::{LaunchCheck, check_launches};
+use rim_check::{LaunchCheck, check_launches, refusals};
 use rim_desc::{Lanes, Measurement};
+use rim_json::json_report;
 use rim_map::{RefusedLaunch, map_json, map_text, refused_json, refused_text};
 use rim_release::{
-    AuditFault, Files, Gate, JobId, LoadedLaunch, LoadedRelease, Outcome, Release, Report,
-    StartFault, audit, audit_report, json_report, listing, measure_alone, measure_release,
-    placed_devicetree, read_manifest, trace_or_refusal,
+    AcceptedRelease, AuditFault, Files, Gate, JobId, LoadedLaunch, LoadedRelease, Outcome, Release,
+    Report, StartFault, accept_all, audit, audit_report, listing, measure_accepted, measure_alone,
+    measure_release, placed_devicetree, read_manifest, trace_or_refusal,
 };
 use shown_text::{Remark, Word};
 use std::alloc::{AllocError, Global};
@@ -38,7 +39,7 @@ pub fn seen<R: Threads + Wait + Sync + Print + AllocGlobal>(
         }
         ReleaseCall::ByWorkers => by_workers(trial, &release, &files, true),
         ReleaseCall::NoWaiting => by_workers(trial, &release, &files, false),
-        ReleaseCall::JsonReport => as_json(trial, &release, &files),
+        ReleaseCall::JsonReport => as_json(trial, text, loaded),
         ReleaseCall::AuditReport =>
             tried!(trial, audit_report(alloc, &release, &files) => text_digest, NoMemory),
         ReleaseCall::CheckLaunches =>
@@ -107,22 +108,38 @@ fn mapped<R: Print + AllocGlobal>(
     }
 }
 
-/// The report in JSON of a run that one worker has made.
+/// The report in JSON of a run that one worker has made, with the remarks on what is refused.
 fn as_json<R: Threads + Wait + Sync + Print + AllocGlobal>(
     trial: &Trial<'_, R>,
-    release: &Release,
-    files: &Files,
-) -> Result<Seen, Fault>
-    requires { vec_len files.now ≡ length release.now.paths }
-{
+    manifest: &[u8],
+    loaded: LoadedRelease<'_>,
+) -> Result<Seen, Fault> {
     let alloc = trial.rt.alloc();
+    let accepted = accept_all(alloc, loaded)?;
     let gate = &mut Counting::new(true);
-    let Ok(outcome) = measure_release(trial.rt, alloc, gate, release, files, 1) else {
+    let Ok(outcome) = measure_accepted(trial.rt, alloc, gate, &accepted, 1) else {
         return Err(Fault::Input);
     };
-    let loaded = LoadedRelease::new(release, files);
-    let (launches, pages) = (outcome.launches.as_slice(), outcome.pages);
-    tried!(trial, json_report(alloc, "rim", loaded, launches, pages) => text_digest, NoMemory)
+    tried!(trial, reported(alloc, manifest, &accepted, &outcome) => text_digest, NoMemory)
+}
+
+fn reported(
+    alloc: Global,
+    manifest: &[u8],
+    accepted: &AcceptedRelease<'_>,
+    outcome: &Outcome,
+) -> Result<Vec<u8>, NoMemory> {
+    let remarks = refusals(alloc, accepted)?;
+    json_report(
+        alloc,
+        "rim",
+        "manifest.toml",
+        manifest,
+        accepted,
+        &outcome.launches,
+        &remarks,
+        outcome.pages,
+    )
 }
 
 /// Counts the calls around jobs.

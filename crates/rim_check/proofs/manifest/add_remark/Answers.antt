@@ -8,6 +8,7 @@ use Rattle.rim_check.proofs.manifest.add_remark.Goals as goal
 pub returns : goal.returns
 returns c =
     on_ok_weaker _
-    (λ (adds : (s : Saying) → Says s _ → AddsLine s _ _). adds _ (says-fault c.args.manifest.now.path.now (table_view c.args.manifest.now.document.now.table) c.args.finding.now c.args.spot _ _ _
+    (λ (adds : (s : Saying) → Says s _ → AddsLine s _ _). adds _ (says-fault c.args.manifest.now.path.now
+    (table_view c.args.manifest.now.document.now.table) c.args.finding.now c.args.spot _ _ _
     c.in_ok-place.ensures c.as_str.ensures.value (ap (λ (word : List ℕ). Some word) c.kind.ensures) c.in_ok-remark.ensures))
     c.push_remark.ensures

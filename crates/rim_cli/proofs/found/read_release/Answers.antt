@@ -1,10 +1,18 @@
-use Rattle.std.proofs.Common.{◌≡◌}
+use Rattle.std.proofs.Common.{◌≡◌, List, ℕ}
 use Rattle.std.specs.Prelude.{Ok}
+use Rattle.std.proofs.lemmas.Result.{IfErr-weaker, IfOk-weaker}
 use Rattle.rim_manifest.specs.Manifest.{manifest_of}
+use Rattle.rim_cli.specs.Files.{Known}
 use Rattle.rim_cli.proofs.ReadFileByFile.{of_bytes}
 use Rattle.rim_cli.proofs.found.read_release.Goals as goal
 
-pub returns-in-Ok-clause-read : goal.returns-in-Ok-clause-read
-returns-in-Ok-clause-read g c =
-    of_bytes _ c.in_ok-text.text.items (λ bytes. manifest_of bytes ≡ Ok c.in-Ok.release) c.in_ok-text.ensures.read
-    (rw c.as_slice.ensures.value at c.in-Ok.ensures)
+pub returns-clause-read : goal.returns-clause-read
+returns-clause-read g c =
+    IfOk-weaker c.release_in.result _ _ (λ r read. of_bytes _ c.in_ok-text.text.items (λ bytes. manifest_of bytes ≡ Ok r) c.in_ok-text.ensures.read
+    (rw c.as_slice.ensures.value at read)) c.release_in.ensures.read
+
+pub returns-clause-fault : goal.returns-clause-fault
+returns-clause-fault g c =
+    let held : List ℕ → Known = g.O.Opener.held c.args.opener.now in
+    IfErr-weaker c.release_in.result _ _ (λ e fault. fault (held c.args.path.now) (rw c.as_slice.ensures.value c.in_ok-text.ensures.read))
+    c.release_in.ensures.fault

@@ -1,0 +1,2 @@
+pub mod ReportJson
+pub mod inside
