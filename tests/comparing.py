@@ -23,6 +23,7 @@ import sys
 import time
 
 from helpers import SCRIPTS, TOP
+from helpers.files import tree
 from helpers.folders import Folder
 from helpers.tries import at_a_time, differs, program_of, told
 
@@ -69,8 +70,12 @@ def values(program: str, here: Folder) -> dict[str, str]:
     return dict(line.split(" ", 1) for line in made(program, here, "m.toml").splitlines()[1:-1])
 
 
+def digest(data: bytes) -> str:
+    return hashlib.sha256(data).hexdigest()
+
+
 def content(data: bytes) -> str:
-    return f"{len(data)} byte{'s' * (len(data) != 1)}, sha256 {hashlib.sha256(data).hexdigest()}"
+    return f"{len(data)} byte{'s' * (len(data) != 1)}, sha256 {digest(data)}"
 
 
 # ---- changes: what they are, the new launches, paths and files, and the lines, in which {A} is what launch a had, and {a} what it has
@@ -84,23 +89,36 @@ OTHER, MORE, LONGER = b"+", b"more", FILES[ODD] + b"\0"
 CHANGES = [
     ("nothing", LAUNCHES, PATHS, {}, []),
     ("the order", LAUNCHES[::-1], dict(reversed(PATHS.items())), {}, []),
-    ("a key", replaced("d", "s2sz = 33", "s2sz = 33\nnum_bps = 5"), PATHS, {}, ['launch "d" has another value: {d}, was {D}']),
-    ("an algorithm", replaced("b", "sha512", "sha256"), PATHS, {}, ['launch "b" has another value: {b}, was {B}']),
+    ("a key", replaced("d", "s2sz = 33", "s2sz = 33\nnum_bps = 5"), PATHS, {},
+     ['launch "d" has another value: {d}, was {D}', "  parameter num_bps: 5, was 0"]),
+    ("an algorithm", replaced("b", "sha512", "sha256"), PATHS, {},
+     ['launch "b" has another value: {b}, was {B}', "  algorithm: sha256, was sha512"]),
+    ("a personalization value", replaced("d", "s2sz = 33", "s2sz = 33\nrpv = '" + "ab" * 64 + "'"), PATHS, {},
+     ['launch "d" has another personalization value: ' + "ab" * 64 + ", was " + "00" * 64]),
     ("a refusal", replaced("a", "0x40010000", "0x40010001"), PATHS, {},
-     ['launch "a" is refused now: plan-unaligned, was {A}']),
-    ("an acceptance", replaced("c", "item", RAM + "\nitem"), PATHS, {}, ['launch "c" is accepted now: {c}, was refused outside-ram']),
+     ['launch "a" is refused now: plan-unaligned, was {A}', "  RAM: 0x40000000 to 0x40010001, was 0x40000000 to 0x40010000"]),
+    ("an acceptance", replaced("c", "item", RAM + "\nitem"), PATHS, {},
+     ['launch "c" is accepted now: {c}, was refused outside-ram', "  RAM: 0x40000000 to 0x40010000, was none"]),
+    ("an acceptance at another address, with a size",
+     replaced("c", ITEM % ("two", ""), RAM + "\n" + (ITEM % ("two", ", size = 0x3000")).replace("0x40000000", "0x40002000")), PATHS, {},
+     ['launch "c" is accepted now: {c}, was refused outside-ram', "  RAM: 0x40000000 to 0x40010000, was none",
+      '  item "i", address: 0x40002000, was 0x40000000']),
     ("another refusal", [LAUNCHES[0], LAUNCHES[1], launch("c", RAM, OVERLAP), LAUNCHES[3]], PATHS, {},
-     ['launch "c" is refused for another reason: overlap, was outside-ram']),
+     ['launch "c" is refused for another reason: overlap, was outside-ram', "  RAM: 0x40000000 to 0x40010000, was none",
+      f'  item "j" is new: raw, sha256 {digest(FILES["one"])}']),
     ("a name", replaced("b", '"b"', '"new"'), PATHS, {}, ['launch "new" has the value that launch "b" had, which is gone: {new}']),
     ("the name of one that is refused", replaced("c", '"c"', '"new"'), PATHS, {},
      ['launch "c" is gone: it was {C}', 'launch "new" is new: {new}']),
     ("names exchanged", [*replaced("a", '"a"', '"d"')[:1], *LAUNCHES[1:3], *replaced("d", '"d"', '"a"')[3:]], PATHS, {},
-     ['launch "a" has the value that launch "d" had: {D}, was {A}', 'launch "d" has the value that launch "a" had: {A}, was {D}']),
+     ['launch "a" has the value that launch "d" had: {D}, was {A}', "  RAM: none, was 0x40000000 to 0x40010000",
+      f'  item "i" is gone: it was raw, sha256 {digest(FILES["one"])}', 'launch "d" has the value that launch "a" had: {A}, was {D}',
+      "  RAM: 0x40000000 to 0x40010000, was none", f'  item "i" is new: raw, sha256 {digest(FILES["one"])}']),
     ("a launch more", [LAUNCHES[0], launch("bad", ITEM % ("one", "")), *LAUNCHES[1:]], PATHS, {}, ['launch "bad" is new: refused outside-ram']),
     ("a launch that was refused is gone", [LAUNCHES[0], LAUNCHES[1], LAUNCHES[3]], PATHS, {},
      ['launch "c" is gone: it was refused outside-ram']),
     ("a file that is measured", LAUNCHES, PATHS, {"one": OTHER},
-     ['launch "a" has another value: {a}, was {A}', f'file "one" has other contents: {content(OTHER)}, was {content(FILES["one"])}']),
+     ['launch "a" has another value: {a}, was {A}', f'  item "i", sha256: {digest(OTHER)}, was {digest(FILES["one"])}',
+      f'file "one" has other contents: {content(OTHER)}, was {content(FILES["one"])}']),
     ("a file that is not measured", LAUNCHES, PATHS, {"two": FILES["two"][:-1]},
      [f'file "two" has other contents: {content(FILES["two"][:-1])}, was {content(FILES["two"])}']),
     ("a file that has one byte more", LAUNCHES, PATHS, {ODD: LONGER},
@@ -144,11 +162,10 @@ def report(program: str, here: Folder) -> dict:
 
 def of_version(table: dict, version: int) -> dict:
     """The report as earlier versions had it."""
-    old = {key: copy.deepcopy(table[key]) for key in ("launches", "pages")} | {"version": version}
-    for each in old["launches"]:
-        if version == 1:
-            each.pop("rim_base64", None)
-    return old
+    old = {key: copy.deepcopy(table[key]) for key in (("files", "launches", "pages", "program") if version == 3 else ("launches", "pages"))}
+    known = {"algorithm", "name", "refused", "rim"} | ({"rim_base64"} if version > 1 else set())
+    old["launches"] = [{key: value for key, value in each.items() if key in known} for each in old["launches"]]
+    return old | {"version": version}
 
 
 def versions(program: str) -> list[str]:
@@ -160,12 +177,12 @@ def versions(program: str) -> list[str]:
                "have no files\n"
         old = of_version(now, version)
         here.put("old.json", json.dumps(old, indent=2).encode())
-        wrong += differs(f"version {version}, the same", here.run("old.json", "m.toml", start=START, RIM=program), (0, "", said % (version, 3)))
-        wrong += differs(f"version {version} now", here.run("kept.json", "old.json", start=START), (0, "", said % (3, version)))
+        wrong += differs(f"version {version}, the same", here.run("old.json", "m.toml", start=START, RIM=program), (0, "", said % (version, 4)))
+        wrong += differs(f"version {version} now", here.run("kept.json", "old.json", start=START), (0, "", said % (4, version)))
         old["launches"][3]["rim"] = "5a" * 32
         here.put("old.json", json.dumps(old).encode())
         line = f'launch "d" has another value: sha256 {now["launches"][3]["rim"]}, was sha256 {"5a" * 32}\n'
-        wrong += differs(f"version {version}, a value", here.run("old.json", "m.toml", start=START, RIM=program), (1, line, said % (version, 3)))
+        wrong += differs(f"version {version}, a value", here.run("old.json", "m.toml", start=START, RIM=program), (1, line, said % (version, 4)))
         here.put("older.json", json.dumps(of_version(now, 1)).encode())
         wrong += differs(f"versions {version} and 1", here.run("old.json", "older.json", start=START), (1, line, said % (version, 1)))
     return wrong
@@ -202,7 +219,7 @@ def taken_out(*path):
 MALFORMED = [
     ("no version", taken_out("version"), "version is missing, or is no whole number"),
     ("version true", put_in("version", value=True), "version is missing, or is no whole number"),
-    ("version 4", put_in("version", value=4), "version is 4, expected one of 1, 2, 3"),
+    ("version 5", put_in("version", value=5), "version is 5, expected one of 1, 2, 3, 4"),
     ("version 0", put_in("version", value=0), "version is 0, expected"),
     ("no launches", taken_out("launches"), "launches is missing, or is no array"),
     ("launches of numbers", put_in("launches", 0, value=3), "name is missing, or is no text"),
@@ -223,6 +240,17 @@ MALFORMED = [
     ("a negative size", put_in("files", 0, "bytes", value=-1), "bytes is -1, expected"),
     ("a value and a refusal", put_in("launches", 0, "refused", value="overlap"), "a launch has both rim and refused"),
     ("no program", taken_out("program"), "program is missing, or is no text"),
+    ("no personalization value", taken_out("launches", 0, "rpv"), "rpv is missing, or is no text"),
+    ("a short personalization value", put_in("launches", 0, "rpv", value="00"), 'rpv is "00"'),
+    ("no edited devicetree", taken_out("launches", 0, "edited_sha256"), "edited_sha256 is missing, or is no text"),
+    ("a digest that is short", put_in("launches", 0, "edited_sha256", value="00"), 'edited_sha256 is "00"'),
+    ("no RAM", taken_out("launches", 0, "ram"), "ram is missing, or is no array"),
+    ("a region of texts", put_in("launches", 0, "ram", 0, "base", value="0"), "base is missing, or is no whole number"),
+    ("no items", put_in("launches", 0, "items", value={}), "items is missing, or is no array"),
+    ("an item without a place", taken_out("launches", 0, "items", 0, "place"), "place is missing, or is no object"),
+    ("an item without a digest", taken_out("launches", 0, "items", 0, "sha256"), "sha256 is missing, or is no text"),
+    ("no RECs", taken_out("launches", 0, "recs"), "recs is missing, or is no object"),
+    ("no parameters", put_in("launches", 0, "parameters", value=[]), "parameters is missing, or is no object"),
 ]
 
 
@@ -259,6 +287,17 @@ def rim_of(here: Folder, body: str) -> str:
     """A program in the place of `rim`."""
     here.put("fake", f"#!/bin/sh\n{body}\n".encode(), is_program=True)
     return os.path.join(here.path, "fake")
+
+
+def command_lines(program: str) -> list[str]:
+    """Another command line, as long as the old one, is named by the digest of the devicetree that has it."""
+    item = "ram = [[0x40000000, 0x40400000]]\nitem = [{ name = 'i', kind = 'dtb', file = 'tree', at = 0x40000000, bootargs = '%s' }]"
+    both = {name: manifest([launch("a", item % line)], {"tree": "tree"}) for name, line in (("m.toml", "quiet"), ("n.toml", "noisy"))}
+    here = Folder(both | {"tree": tree([(0x40000000, 0x40400000)])})
+    keep(program, here)
+    trees = [digest(subprocess.run([program, "dtb", name, "a"], cwd=here.path, capture_output=True, check=True).stdout) for name in both]
+    _, out, said = here.run("kept.json", "n.toml", start=START, RIM=program)
+    return differs("what differs", (out.splitlines()[1:], said), ([f"  edited devicetree: sha256 {trees[1]}, was sha256 {trees[0]}"], ""))
 
 
 def joined(program: str) -> list[str]:
@@ -302,14 +341,15 @@ def of_folders(program: str) -> list[str]:
     here.put("realms/own-2", b"two")
     status, out, said = here.run("--json", "kept.json", "realms", start=START, RIM=program)
     now = here.run("--json", start=os.path.join(here.path, MEASURE), RIM=program)[1]
-    was = {"algorithm": "sha256", "rim": value_in(here, reports[1]).split(" ")[1]}
-    new = {"algorithm": "sha256", "rim": json.loads(now)["launches"][1]["rim"]}
+    was = {"algorithm": "sha256", "rim": value_in(here, reports[1]).split(" ")[1], "rpv": "00" * 64}
+    new = {"algorithm": "sha256", "rim": json.loads(now)["launches"][1]["rim"], "rpv": "00" * 64}
     contents = [{"bytes": len(data), "sha256": hashlib.sha256(data).hexdigest()} for data in (before, b"two")]
-    wrong += differs("JSON", (status, json.loads(out), said), (1, {"version": 1, "notes": [], "differences": [
-        {"of": "launch", "name": "l2", "kind": "value", "was": was, "now": new},
+    wrong += differs("JSON", (status, json.loads(out), said), (1, {"version": 2, "notes": [], "differences": [
+        {"of": "launch", "name": "l2", "kind": "value", "was": was, "now": new, "inputs": [
+            {"what": 'item "i", sha256', "was": digest(before), "now": digest(b"two")}, {"what": 'item "i", size', "was": "1", "now": "3"}]},
         {"of": "file", "name": "own-2", "kind": "contents", "was": contents[0], "now": contents[1]}]}, ""))
     wrong += differs("JSON of nothing", here.run("--json", "kept.json", "kept.json", start=START),
-                     (0, '{"version": 1, "notes": [], "differences": []}\n', ""))
+                     (0, '{"version": 2, "notes": [], "differences": []}\n', ""))
     here.put("realms/manifest-2.toml", b"rim_manifest = 1\nlunch = 1")
     return wrong + differs("a fault in a folder", here.run("kept.json", "realms", start=START, RIM=program),
                            (3, "", "rim-compare: rim: unknown-key; `rim check manifest-2.toml` in realms says where\n"))
@@ -325,7 +365,7 @@ def of_schema(program: str) -> list[str]:
     """A joined report is as long as the schema lets it be."""
     with open(os.path.join(TOP, "docs", "report.schema.json"), encoding="utf-8") as file:
         schema = json.load(file)
-    report_of = json.dumps({"files": [], "launches": [], "pages": 1 << 20, "program": "p", "version": 3})
+    report_of = json.dumps({"files": [], "launches": [], "pages": 1 << 20, "manifests": [], "program": "p", "version": 4})
     most = {key: 1024 * each for key, each in (("launches", 1024), ("files", 64))}
     wrong = differs("the schema", {key: schema["properties"][key]["maxItems"] for key in most}, most)
     wrong += differs("pages", schema["properties"]["pages"]["maximum"], 1 << 30)
@@ -341,7 +381,7 @@ MISBEHAVING = [
     ("many pages", "echo rim-report 1; echo pages 11111111111111111111", [], 3, "a report of rim is none ("),
     ("a list", "echo '[]'", ["--json"], 3, "a report of rim is none ("), ("a number", "echo 1", ["--json"], 3, "a report of rim is none ("),
     ("deep", "head -c 100000 /dev/zero | tr '\\0' '['", ["--json"], 3, "a report of rim is none ("),
-    ("one launch thrice", "echo '{\"files\":[],\"launches\":[{\"name\":\"a\"}],\"pages\":1,\"program\":\"p\",\"version\":3}'", ["--json"], 3,
+    ("one launch thrice", "echo '{\"files\":[],\"launches\":[{\"name\":\"a\"}],\"pages\":1,\"program\":\"p\",\"version\":4}'", ["--json"], 3,
      "('two launches have one name')"),
     ("endless", "exec yes", [], 3, "manifest-1.toml: status -25"), ("killed", "kill -9 $$", [], 3, "manifest-1.toml: status -9"),
     ("wrong words", "exit 2", ["--jso"], 2, "manifest-1.toml: status 2\n"), ("no memory", "exit 4", [], 4, "manifest-1.toml: status 4\n"),
@@ -526,14 +566,15 @@ def documents(_program: str) -> list[str]:
     with open(os.path.join(SCRIPTS, "comparer", "differ.py"), encoding="utf-8") as file:
         text = file.read()
     kinds = re.findall(r'f"((?:is|has) [^:{"]+):', text) + re.findall(r'^    [A-Z]+ = ("[a-z]+")', text, re.M)
-    wrong = differs("kinds of lines, and of JSON", len(kinds), 7 + 8)
+    wrong = differs("kinds of lines, and of JSON", len(kinds), 8 + 9)
     return wrong + [f"docs/rim-compare.1: {name!r} is not there" for name in ("--help", "--version", *kinds) if name not in page]
 
 
 def all_tries(program: str):
     for name, launches, paths, changed, lines in CHANGES:
         yield name, lambda launches=launches, paths=paths, changed=changed, lines=lines: change(program, launches, paths, changed, lines)
-    for look in (joined, of_folders, of_schema, misbehaving, signals, versions, programs, malformed, words, faults, installed, outputs, documents):
+    for look in (command_lines, joined, of_folders, of_schema, misbehaving, signals, versions, programs, malformed, words, faults, installed,
+                 outputs, documents):
         yield look.__name__, lambda look=look: look(program)
 
 

@@ -107,6 +107,19 @@ def refusals(program: str) -> list[str]:
         0, "", json.loads(ran.stdout)["launches"][0]["rim_base64"], {"vendor": "ACME"}))
 
 
+def personalized(program: str) -> list[str]:
+    """A personalization value is a raw value beside the RIM, which it does not change. One of zeros is none."""
+    own = {"a": "", "b": f", rpv = '{'ab' * 64}'", "c": f", rpv = '{'00' * 64}'"}
+    launches = ", ".join(f'{{ name = "{name}", algo = "sha256", s2sz = 33{rpv} }}' for name, rpv in own.items())
+    here = folder({"m.toml": f"rim_manifest = 1\nlaunch = [{launches}]".encode()})
+    here.put("m.json", subprocess.run([program, "measure", "--json", "m.toml"], cwd=here.path, capture_output=True, check=True).stdout)
+    status, out, said = here.run(*WORDS, "--corim", "c.cbor", "m.json", start=START)
+    found = [each["measurements"][0]["value"].get("raw-value") for each in json.loads(out)["triples"]["reference-values"]]
+    wrong = differs("raw values", (status, said, found), (0, "", [None, {"type": "bytes", "value": in_base64(b"\xab" * 64)}]))
+    inner = cbor.decoded(cbor.decoded(here.read("c.cbor")).value[1][0].value)
+    return wrong + differs("in CBOR", [each[1][0][1].get(4) for each in inner[4][0]], [None, Tag(560, b"\xab" * 64)])
+
+
 WRONG = [
     ([], 2, "usage: rim-endorse"), (["r.json"], 2, "no class is given, expected --vendor or --class-id"),
     (["--vendor", "a"], 2, "0 operands, expected REPORT"), (["--vendor", "", "r.json"], 2, '--vendor: "", expected a name'),
@@ -143,7 +156,7 @@ def words(_program: str) -> list[str]:
 
 
 def all_tries(program: str):
-    for look in (one_report, refusals, words):
+    for look in (one_report, refusals, personalized, words):
         yield look.__name__, lambda look=look: look(program)
 
 

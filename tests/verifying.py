@@ -113,8 +113,9 @@ def signed(payload: bytes, is_tagged: bool = True):
 
 
 def claims(rim: str, algorithm: str = "sha-256", **changes) -> dict:
-    """The claims of a realm. A change of `cN` is that of the claim N; None takes it out."""
-    found = {10: b"n" * 64, 265: "tag:arm.com,2023:realm#1.0.0", 44235: b"\xab" * 64, 44236: algorithm, 44237: b"k" * 97,
+    """The claims of a realm that the manifest has. A change of `cN` is that of the claim N; None takes it out."""
+    rpv = (b"\xab" if algorithm == "sha-512" else b"\0") * 64
+    found = {10: b"n" * 64, 265: "tag:arm.com,2023:realm#1.0.0", 44235: rpv, 44236: algorithm, 44237: b"k" * 97,
              44238: bytes.fromhex(rim), 44239: [bytes(32)] * 4, 44240: "sha-256"}
     found |= {int(name[1:]): value for name, value in changes.items()}
     return {label: value for label, value in found.items() if value is not None}
@@ -161,8 +162,29 @@ def forms(program: str) -> list[str]:
     wrong += differs("sha-512", looked_up(here, token(claims(values["b"], "sha-512"))),
                      (0, f'launch "b" of r.json has the RIM: sha512 {values["b"]}\n', UNCHECKED))
     other = "5a" * 32
+    wrong += other_rpv(here, values["a"])
     return wrong + differs("another value", looked_up(here, token(claims(other))),
                            (1, f"no launch of 4 has the RIM: sha256 {other}\n", UNCHECKED))
+
+
+def other_rpv(here: Folder, value: str) -> list[str]:
+    """The RIM does not have the personalization value, so a launch may have the one and not the other. A report of version 3 has none."""
+    found = [f'launch "{name}" of r.json has the RIM: sha256 {value}\n' for name in ("a", "like-a")]
+    differing = [f"{line.split(' has')[0]} has another personalization value: {'00' * 64}, the token has {'ab' * 64}\n" for line in found]
+    data = token(claims(value, c44235=b"\xab" * 64))
+    wrong = differs("another personalization value", looked_up(here, data),
+                    (1, "".join(line + more for line, more in zip(found, differing)), UNCHECKED))
+    report = json.loads(here.read("r.json"))
+    report["launches"][2]["rpv"] = "ab" * 64
+    here.put("one.json", json.dumps(report).encode())
+    wrong += differs("that of one of two", looked_up(here, data, "one.json"),
+                     (0, (found[0] + differing[0] + found[1]).replace("r.json", "one.json"), UNCHECKED))
+    del report["manifests"]
+    launches = [{key: value for key, value in launch.items() if key in ("algorithm", "name", "rim", "rim_base64", "refused")}
+                for launch in report["launches"]]
+    here.put("old.json", json.dumps(report | {"launches": launches, "version": 3}).encode())
+    return wrong + differs("a report without one", looked_up(here, data, "old.json"),
+                           (0, "".join(found).replace("r.json", "old.json"), UNCHECKED))
 
 
 WRONG_CLAIMS = [

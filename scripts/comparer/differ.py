@@ -2,11 +2,11 @@
 import enum
 from collections import Counter
 from collections.abc import Callable, Iterator, Mapping
-from dataclasses import dataclass
+from dataclasses import dataclass, replace
 
 from outside.texts import quoted
 
-from .report import Content, Report, Value
+from .report import STATED_SIZE, Content, Inputs, Report, Value
 
 Entry = Value | Content
 
@@ -19,14 +19,35 @@ class Kind(enum.Enum):
     REFUSED = "refused"         # it was accepted
     ACCEPTED = "accepted"       # it was refused
     REASON = "reason"           # it is refused for another reason
+    RPV = "rpv"                 # the same measurement, and another personalization value
     RENAMED = "renamed"         # one that is gone had its value or its contents
     GONE = "gone"
     NEW = "new"
 
 
 @dataclass(frozen=True)
+class Input:
+    """Something that a launch is made of, and what it was and is; "" where it is not there."""
+
+    what: str
+    was: str
+    now: str
+
+    @property
+    def line(self) -> str:
+        if not self.was:
+            return f"  {self.what} is new: {self.now}"
+        return f"  {self.what}: {self.now}, was {self.was}" if self.now else f"  {self.what} is gone: it was {self.was}"
+
+    @property
+    def table(self) -> dict[str, str]:
+        return {"what": self.what} | {key: value for key, value in (("was", self.was), ("now", self.now)) if value}
+
+
+@dataclass(frozen=True)
 class Difference:
-    """How one launch or file differs. `had`: the name of another one that had in the kept report what this one has now."""
+    """How one launch or file differs. `had`: the name of another one that had in the kept report what this one has now. `inputs`: what
+    differs of all that the launch is made of, or None where that is not known."""
 
     of: str
     name: str
@@ -34,10 +55,13 @@ class Difference:
     was: Entry | None
     now: Entry | None
     had: str | None = None
+    inputs: tuple[Input, ...] | None = None
 
     @property
-    def line(self) -> str:
-        return f"{self.of} {quoted(self.name)} {self.text}"
+    def lines(self) -> list[str]:
+        """Its line, and one for each of the inputs."""
+        found = [each.line for each in self.inputs or ()]
+        return [f"{self.of} {quoted(self.name)} {self.text}", *found, *["  of all that the reports have of it nothing differs"] * (self.inputs == ())]
 
     @property
     def text(self) -> str:
@@ -58,6 +82,8 @@ class Difference:
                 return f"is refused now: {reason(self.now)}, was {self.was}"
             case Kind.ACCEPTED:
                 return f"is accepted now: {self.now}, was {self.was}"
+            case Kind.RPV:
+                return f"has another personalization value: {rpv(self.now)}, was {rpv(self.was)}"
             case Kind.REASON:
                 return f"is refused for another reason: {reason(self.now)}, was {reason(self.was)}"
 
@@ -71,15 +97,22 @@ class Difference:
         entries = (("was", self.was), ("now", self.now))
         found: dict[str, object] = {"of": self.of, "name": self.name, "kind": self.kind.value}
         found |= {key: entry.table for key, entry in entries if entry is not None}
-        return found | ({"had": self.had} if self.had is not None else {})
+        found |= {"had": self.had} if self.had is not None else {}
+        return found | ({"inputs": [each.table for each in self.inputs]} if self.inputs is not None else {})
 
 
 def reason(entry: Entry | None) -> str:
     return entry.refused if isinstance(entry, Value) else ""
 
 
+def rpv(entry: Entry | None) -> str:
+    return entry.rpv if isinstance(entry, Value) else ""
+
+
 def of_value(was: Value, now: Value) -> Kind:
     """How the value of a launch differs from what it was."""
+    if replace(was, rpv=now.rpv) == now:
+        return Kind.RPV
     if now.refused:
         return Kind.REASON if was.refused else Kind.REFUSED
     return Kind.ACCEPTED if was.refused else Kind.VALUE
@@ -120,8 +153,41 @@ def of_all(of: str, was: Mapping[str, Entry], now: Mapping[str, Entry], kind_of:
     yield from (Difference(of, name, Kind.NEW, None, new) for name, new in now.items() if name not in was and name not in renamed)
 
 
+def of_texts(front: str, was: Mapping[str, str], now: Mapping[str, str]) -> Iterator[Input]:
+    """Each text that both have and that differs. What one alone has is known of it alone: the other launch could not be laid out."""
+    twice = {STATED_SIZE} if "size" in was and "size" in now else set()
+    yield from (Input(front + what, old, now[what]) for what, old in was.items() if now.get(what, old) != old and what not in twice)
+
+
+def of_inputs(was: Inputs, now: Inputs) -> Iterator[Input]:
+    """What differs of all that a launch is made of, in the order in which reports have it; then items that are gone and new."""
+    yield from of_texts("", was.own, now.own)
+    for name, item in was.items.items():
+        if name in now.items:
+            yield from of_texts(f"item {quoted(name)}, ", item, now.items[name])
+        else:
+            yield Input(f"item {quoted(name)}", f"{item['kind']}, sha256 {item['sha256']}", "")
+    for name, item in now.items.items():
+        if name not in was.items:
+            yield Input(f"item {quoted(name)}", "", f"{item['kind']}, sha256 {item['sha256']}")
+
+
+def with_inputs(each: Difference, was: Report, now: Report) -> Difference:
+    """The same with the inputs that differ, where the launch is in both reports and they have them. A new name has those of the old one."""
+    if was.inputs is None or now.inputs is None or each.kind in (Kind.GONE, Kind.NEW, Kind.RENAMED, Kind.RPV):
+        return each
+    return replace(each, inputs=tuple(of_inputs(was.inputs[each.name], now.inputs[each.name])))
+
+
+def without_rpv(launches: Mapping[str, Value]) -> dict[str, Value]:
+    return {name: replace(value, rpv="") for name, value in launches.items()}
+
+
 def differences(was: Report, now: Report) -> Iterator[Difference]:
-    """All that differs: launches, and files where both reports have them."""
-    yield from of_all("launch", was.launches, now.launches, of_value)
+    """All that differs: launches, and files where both reports have them. Personalization values count where both have them."""
+    both = was.inputs is not None and now.inputs is not None
+    values = (was.launches, now.launches) if both else (without_rpv(was.launches), without_rpv(now.launches))
+    for each in of_all("launch", *values, of_value):
+        yield with_inputs(each, was, now)
     if was.files is not None and now.files is not None:
         yield from of_all("file", was.files, now.files, of_content)

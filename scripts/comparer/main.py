@@ -25,9 +25,10 @@ usage: rim-compare [--json] [--kept REPORT].. REPORT OTHER..
 
 REPORT is what `rim measure --json` has written. OTHER is another one, a manifest, of which `rim` makes the report now, or a folder that
 rim-manifest has made; several are taken as one. A line is printed for each launch that has another value, is refused or accepted now, has
-another name, is new or gone, and then for each file that has other contents, has another name, is new or gone. Reports of versions 1 and 2
-have no files, so that values alone are compared. Another version of `rim` is said and is no difference. The program is the one that the
-variable RIM names, or `rim` beside this one, or of the PATH.
+another name or personalization value, is new or gone; lines with two spaces before them say what of all that it is made of differs. Then
+comes one for each file that has other contents, has another name, is new or gone. Reports of versions 1 and 2 have no files, so that values
+alone are compared, and those below version 4 do not say what launches are made of. Another version of `rim` is said and is no difference.
+The program is the one that the variable RIM names, or `rim` beside this one, or of the PATH.
 
       --kept REPORT another kept report: all of them are taken as one
       --json        print one JSON object in place of lines
@@ -41,8 +42,8 @@ ALONE = {"-h": ABOUT, "--help": ABOUT, "-V": f"rim-compare {VERSION}\n", "--vers
 KNOWN = Known(dict.fromkeys((*ALONE, "--json"), "") | {"--kept": "a report"}, no_option("rim-compare"))
 # The manifests that rim-manifest writes into a folder, and the most of them.
 IN_FOLDER, MOST_MANIFESTS = re.compile(r"manifest(?:-([0-9]{1,4}))?\.toml"), 1024
-# The version of what --json prints.
-JSON_VERSION = 1
+# The version of what --json prints: 1 had no inputs and no personalization values.
+JSON_VERSION = 2
 
 
 @functools.cache
@@ -109,7 +110,7 @@ def run(words: list[str]) -> int:
     if any(option == "--json" for option, _ in said):
         print(json.dumps({"version": JSON_VERSION, "notes": noted, "differences": [each.table for each in found]}))
     else:
-        print("\n".join(each.line for each in found), end="\n" * bool(found))
+        print("\n".join(line for each in found for line in each.lines), end="\n" * bool(found))
     return int(bool(found))
 
 

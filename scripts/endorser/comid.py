@@ -25,7 +25,7 @@ LANGUAGE, IDENTITY, TRIPLES, REFERENCE_VALUES = 0, 1, 4, 0
 TAG_ID, TAG_VERSION = 0, 1
 CLASS_ID, VENDOR = 0, 1
 CLASS, INSTANCE = 0, 1
-VALUES, REGISTERS = 1, 14
+VALUES, RAW_VALUE, REGISTERS = 1, 4, 14
 RIM, ENGLISH = "rim", "en-GB"
 
 
@@ -41,6 +41,11 @@ def in_base64(data: bytes) -> str:
     return base64.b64encode(data).decode()
 
 
+def has_rpv(value: Value) -> bool:
+    """Whether a launch has a personalization value of its own. One of zeros is that of a manifest that gives none."""
+    return bool(value.rpv.strip("0"))
+
+
 def class_json(about: About) -> dict:
     found = {"id": {"type": "uuid", "value": str(about.class_id)}} if about.class_id else {}
     return found | ({"vendor": about.vendor} if about.vendor is not None else {})
@@ -50,8 +55,10 @@ def launch_json(about: About, value: Value) -> dict:
     """The reference value of a launch. Its RIM tells the environment apart from others, as its instance."""
     rim = in_base64(bytes.fromhex(value.digits))
     registers = {RIM: {"key-type": "text", "value": [f"{HASHES[value.algorithm][0]};{rim}"]}}
-    return {"environment": {"class": class_json(about), "instance": {"type": "bytes", "value": rim}},
-            "measurements": [{"value": {"integrity-registers": registers}}]}
+    values = {"integrity-registers": registers}
+    if has_rpv(value):
+        values |= {"raw-value": {"type": "bytes", "value": in_base64(bytes.fromhex(value.rpv))}}
+    return {"environment": {"class": class_json(about), "instance": {"type": "bytes", "value": rim}}, "measurements": [{"value": values}]}
 
 
 def identifier(about: About, values: Sequence[Value]) -> uuid.UUID:
@@ -71,7 +78,8 @@ def launch_cbor(about: About, value: Value) -> list:
     of_class = {CLASS_ID: Tag(UUID, about.class_id.bytes)} if about.class_id else {}
     of_class |= {VENDOR: about.vendor} if about.vendor is not None else {}
     registers = {RIM: [[HASHES[value.algorithm][1], rim]]}
-    return [{CLASS: of_class, INSTANCE: Tag(BYTES, rim)}, [{VALUES: {REGISTERS: registers}}]]
+    values = {REGISTERS: registers} | ({RAW_VALUE: Tag(BYTES, bytes.fromhex(value.rpv))} if has_rpv(value) else {})
+    return [{CLASS: of_class, INSTANCE: Tag(BYTES, rim)}, [{VALUES: values}]]
 
 
 def as_cbor(about: About, values: Sequence[Value]) -> bytes:

@@ -42,10 +42,15 @@ def named(path: str, name: str) -> str:
     return f"launch {quoted(name)} of {visible(path)}"
 
 
-def found_in(claims: Claims, reports: Sequence[tuple[str, Report]]) -> list[str]:
+def found_in(claims: Claims, reports: Sequence[tuple[str, Report]]) -> list[tuple[str, Value]]:
     """Each launch that has the RIM, by the algorithm that the token claims."""
-    wanted = Value(claims.algorithm, claims.rim)
-    return [named(path, name) for path, each in reports for name, value in each.launches.items() if value == wanted]
+    wanted = (claims.algorithm, claims.rim)
+    return [(named(path, name), value) for path, each in reports for name, value in each.launches.items() if (value.algorithm, value.digits) == wanted]
+
+
+def has_rpv(claims: Claims, value: Value) -> bool:
+    """Whether a launch has the token's personalization value, as far as its report has one."""
+    return not value.rpv or value.rpv == claims.rpv
 
 
 def run(words: list[str]) -> int:
@@ -65,12 +70,14 @@ def run(words: list[str]) -> int:
     reports = [(each, report.read(files.read(each, MOST, report.WHAT), each)) for each in kept]
     print(f"rim-verify: {UNCHECKED}", file=sys.stderr)
     found = found_in(claims, reports)
-    for line in found:
+    for line, value in found:
         print(f"{line} has the RIM: {claims.algorithm} {claims.rim}")
+        if not has_rpv(claims, value):
+            print(f"{line} has another personalization value: {value.rpv}, the token has {claims.rpv or 'none'}")
     if not found:
         count = sum(len(each.launches) for _, each in reports)
         print(f"no launch of {count} has the RIM: {claims.algorithm} {claims.rim}")
-    return int(not found)
+    return int(not any(has_rpv(claims, value) for _, value in found))
 
 
 def main(words: list[str]) -> int:

@@ -111,12 +111,13 @@ def joined_files(reports: list[dict]) -> list[dict]:
 def joined_json(reports: list[bytes]) -> bytes:
     """One report of JSON, out of several."""
     read = [json.loads(report) for report in reports]
-    if any((each["version"], each["program"]) != (3, read[0]["program"]) for each in read):
+    if any((each["version"], each["program"]) != (4, read[0]["program"]) for each in read):
         raise ValueError("it is of another version, or by another program")
     launches = [launch for each in read for launch in each["launches"]]
     if len({launch["name"] for launch in launches}) != len(launches):
         raise ValueError("two launches have one name")
-    whole = read[0] | {"files": joined_files(read), "launches": launches, "pages": sum(each["pages"] for each in read)}
+    whole = read[0] | {"files": joined_files(read), "launches": launches, "manifests": [file for each in read for file in each["manifests"]],
+                       "pages": sum(each["pages"] for each in read)}
     return json.dumps(whole, separators=(",", ":"), sort_keys=True).encode() + b"\n"
 
 
