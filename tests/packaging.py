@@ -5,11 +5,13 @@
 
 The second time all that tar, gzip, xz, dpkg-deb and git take from the environment and from a user's configuration is set, new files may be
 written by everybody, and the folder for temporary files hands its group on. The bytes have to be the same, and the modes plain. Where dist/
-is not of the sources of the last commit, or dpkg-deb is not installed, nothing is asked.
+is not of the sources of the last commit, or dpkg-deb is not installed, nothing is asked. Each link of the documents leads somewhere in the
+archive.
 
 The last line is 'N passed, M failed'.
 """
 import os
+import pathlib
 import shutil
 import subprocess
 import sys
@@ -17,6 +19,10 @@ import tarfile
 import tempfile
 
 TOP = os.path.dirname(os.path.dirname(os.path.realpath(__file__)))
+sys.path.insert(0, os.path.join(TOP, "tools", "checks"))
+
+import links  # noqa: E402, the path is set above
+
 HOSTILE = {"TAR_OPTIONS": "--mode=0777 --format=pax", "DPKG_DEB_COMPRESSOR_LEVEL": "1", "DPKG_DEB_COMPRESSOR_TYPE": "gzip", "GZIP": "-1",
            "DPKG_DEB_THREADS_MAX": "4", "XZ_OPT": "-0", "XZ_DEFAULTS": "-T4", "POSIXLY_CORRECT": "1", "CDPATH": "/", "GIT_DIR": "/none",
            "TZ": "Asia/Tokyo", "PYTHONHOME": "/none", "TWO": "lines\nPATH=/none", "LANG": "xx", "GREP_COLORS": "x"}
@@ -48,6 +54,16 @@ def modes_of_package(here: str, path: str) -> list[str]:
     return modes(file.name)
 
 
+def broken_links(here: str, path: str) -> list[str]:
+    """Links of the documents of an archive that lead nowhere in it."""
+    with tarfile.open(path) as archive:
+        archive.extractall(os.path.join(here, "tree"), filter="data")
+    links.TOP = next(pathlib.Path(here, "tree").iterdir()) / "share" / "doc" / "rim"
+    found = list(links.links())
+    wrong = [f"{page}: {link} leads nowhere" for page, link, ends in found if not ends]
+    return wrong + ["there are no links"] * (not found)
+
+
 def packages(here: str) -> list[str] | None:
     """What is wrong; None where dist/ has no programs of the sources."""
     with open(os.path.join(here, "attributes"), "w", encoding="utf-8") as file:
@@ -74,6 +90,7 @@ def packages(here: str) -> list[str] | None:
         with tarfile.open(path if name.endswith(".gz") else os.path.join(here, "package.tar")) as archive:
             folders = {"outside", "vmm", "matcher", "comparer"} - {os.path.basename(each.name) for each in archive if each.isdir()}
         wrong += [f"{name}: there is no {each}" for each in folders]
+    wrong += broken_links(here, *(os.path.join(here, "plain", name) for name in plain[2] if name.endswith(".gz")))
     return wrong + [f"{each} is left" for each in os.listdir(temporary)]
 
 

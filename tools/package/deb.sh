@@ -58,19 +58,12 @@ put_programs() {
     fi
 }
 
-# What a user reads. The links of the README that lead into docs/ and examples/ hold there too. Examples that build something need the
-# repository around them.
+# What a user reads.
 put_documents() {
     for page in docs/*.1; do
         put_packed "$page" "share/man/man1/${page##*/}"
     done
-    put 644 README.md share/doc/rim/README.md
-    for page in DEFINITIONS.md FORMATS.md PROMISES.md VERIFIER.md VMM.md check.schema.json map.schema.json report.schema.json; do
-        [ ! -f "docs/$page" ] || put 644 "docs/$page" "share/doc/rim/docs/$page"
-    done
-    find examples -type f ! -path 'examples/debian/*' | while read -r path; do
-        put 644 "$path" "share/doc/rim/$path"
-    done
+    tools/package/documents.py "$tree"
     packaged_copyright >"$tree/share/doc/rim/copyright"
     packaged_changes >"$work/changelog"
     put_packed "$work/changelog" share/doc/rim/changelog
