@@ -85,6 +85,19 @@ ROWS = [
     (["rim-manifest", "qemu", "--libvirt", ""], PATHS),
     (["rim-manifest", "qemu", "--smp", "1,2", "-kern"], ["-kernel"]),
     (["rim-manifest", "kvmtool", "--", ""], []),
+    (["rim-match", ""], PATHS),
+    (["rim-match", "m.toml", ""], LAUNCHES),
+    (["rim-match", "--also", "x.toml", "m.toml", "two"], ["two_vcpus.b"]),
+    (["rim-match", "m.toml", "one-b", ""], []),
+    (["rim-match", "m.toml", "--ne"], ["--nearest"]),
+    (["rim-match", "--nearest", ""], PATHS),
+    (["rim-compare", ""], PATHS),
+    (["rim-compare", "m.toml", ""], PATHS),
+    (["rim-compare", "m.toml", "m.toml", "--ke"], ["--kept"]),
+    (["rim-verify", "m.toml", ""], PATHS),
+    (["rim-verify", "--ver"], ["--version"]),
+    (["rim-endorse", "--class-id", ""], []),
+    (["rim-endorse", "--vendor", "a", "m.toml", ""], PATHS),
 ]
 # Bash also has the words of a line parted where there is a `=` or a `:`.
 BASH_ROWS = [

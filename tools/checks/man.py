@@ -9,7 +9,7 @@ each fault and of each refusal, and each key of a manifest that docs/FORMATS.md 
 its operands in their order and its options, and no form of another command. The table of the shells' completions has
 to have the same commands, their operands, and the same options. What the table says of `rim-manifest` is compared with the
 help texts of that script, and its man page has to name all of it; its SYNOPSIS has a form for each command. The man pages of
-`rim-match`, `rim-compare`, `rim-verify` and `rim-endorse` have to name the options of their help texts.
+`rim-match`, `rim-compare`, `rim-verify` and `rim-endorse` have to name the options of their help texts, which the table has too.
 """
 import itertools
 import pathlib
@@ -176,9 +176,11 @@ def faults():
     if (TOP / "docs/rim-manifest.1").exists():
         lines += faults_of_page("rim-manifest.1", named_of_rim_manifest())
         lines += faults_of_synopsis("rim-manifest.1", "rim-manifest", named_of_rim_manifest()["command"])
-    for script in ("rim-match", "rim-compare", "rim-verify", "rim-endorse"):
-        lines += faults_of_page(f"{script}.1", {"option": sorted(helped(program=script))})
-        lines += faults_of_synopsis(f"{script}.1", script, [])
+    for script in command_table.SCRIPTS:
+        options_there = helped(program=script.name)
+        lines += differences(script.name, names_of(script.options_of(script.commands[0])), options_there)
+        lines += faults_of_page(f"{script.name}.1", {"option": sorted(options_there)})
+        lines += faults_of_synopsis(f"{script.name}.1", script.name, [])
     return lines
 
 

@@ -1,4 +1,4 @@
-"""The words of the command lines of `rim` and of `rim-manifest`: what tools/package/completions.py writes and tools/checks/man.py checks.
+"""The words of the command lines of `rim` and of its scripts: what tools/package/completions.py writes and tools/checks/man.py checks.
 
 A value or an operand has a kind:
 
@@ -37,16 +37,26 @@ class Command:
     operands: tuple[str | tuple[str, ...], ...] = ()
     options: tuple[Option, ...] = ()
     without: tuple[str, ...] = ()   # names of options of all subcommands that it has not, or has itself
+    repeats: bool = False           # its last operand may come again
+
+
+# The name in the place of a subcommand's, of a program that has none.
+ALONE = "alone"
 
 
 @dataclasses.dataclass(frozen=True)
 class Program:
-    """A program with its subcommands, the options of all of them, and those that it takes instead of a subcommand."""
+    """A program with its subcommands, the options of all of them, and those that it takes instead of a subcommand. One that has no
+    subcommands is one of the name `alone`, which is on no line."""
 
     name: str
     commands: tuple[Command, ...]
     common: tuple[Option, ...]
     alone: tuple[Option, ...] = ()
+
+    @property
+    def is_alone(self):
+        return [command.name for command in self.commands] == [ALONE]
 
     def options_of(self, command):
         """The options that may come after a subcommand."""
@@ -58,6 +68,7 @@ class Program:
 
 
 HELP = Option(("-h", "--help"), "Print help")
+VERSION = Option(("-V", "--version"), "Print version")
 
 RIM = Program(
     "rim",
@@ -80,7 +91,7 @@ RIM = Program(
         Command("fdt", "Print a flattened devicetree", (FILE,)),
     ),
     (HELP,),
-    (Option(("-V", "--version"), "Print version"),),
+    (VERSION,),
 )
 
 # ---- rim-manifest, whose own `--help` tools/checks/man.py compares with this
@@ -156,14 +167,50 @@ RIM_MANIFEST = Program(
     (Option(("--version",), "Print version"),),
 )
 
-PROGRAMS = (RIM, RIM_MANIFEST)
+# ---- the scripts without subcommands, whose own `--help` is compared with this too
+
+
+def script(name, operands, *options, repeats=False):
+    return Program(name, (Command(ALONE, "", operands, (*options, HELP, VERSION), repeats=repeats),), ())
+
+
+RIM_MATCH = script(
+    "rim-match", (MANIFEST, LAUNCH, TEXT),
+    Option(("--also",), "Another manifest, whose launches are tried too", FILE),
+    Option(("--kept",), "A report that was kept", FILE),
+    Option(("--file",), "Other contents of a file of the manifest", TEXT),
+    Option(("--append-file",), "A file with one command line a line", FILE),
+    Option(("--qemu",), "QEMU, which makes devicetrees anew", PROGRAM),
+    Option(("--far",), "Go on with two and three changes of all kinds"),
+    Option(("--limit",), "Stop after this many launches", TEXT),
+    Option(("--seconds",), "Stop after this many seconds", TEXT),
+    Option(("--nearest",), "Which launch shares the longest beginning with a trace", FILE),
+    Option(("--contents",), "A file to look in for what differs", FILE),
+    Option(("--axes",), "Print what may be changed"),
+)
+RIM_COMPARE = script(
+    "rim-compare", (FILE,),
+    Option(("--kept",), "Another kept report", FILE),
+    Option(("--json",), "Print one JSON object in place of lines"),
+    repeats=True,
+)
+RIM_VERIFY = script("rim-verify", (FILE,), repeats=True)
+RIM_ENDORSE = script(
+    "rim-endorse", (FILE,),
+    Option(("--vendor",), "The vendor of the class", TEXT),
+    Option(("--class-id",), "The identifier of the class", TEXT),
+    Option(("--corim",), "Write an unsigned CoRIM in CBOR too", FILE),
+    repeats=True,
+)
+SCRIPTS = (RIM_MATCH, RIM_COMPARE, RIM_VERIFY, RIM_ENDORSE)
+PROGRAMS = (RIM, RIM_MANIFEST, *SCRIPTS)
 
 
 def check_texts():
     """Refuses a table with a text that a shell would have to quote."""
     for program in PROGRAMS:
         options = [option for command in program.commands for option in command.options] + [*program.common, *program.alone]
-        abouts = [each.about for each in (*program.commands, *options)]
+        abouts = [each.about for each in (*program.commands, *options) if each.about]
         words = [word for option in options if isinstance(option.value, tuple) for word in option.value]
         words += [command.name for command in program.commands] + [name.lstrip("-") for option in options for name in option.names]
         bad = [text for text in abouts if not ABOUT.fullmatch(text)] + [word for word in words if not WORD.fullmatch(word)]

@@ -1,7 +1,7 @@
 #!/usr/bin/env python3
-"""Writes the completions of `rim` and `rim-manifest` for bash, zsh and fish, out of tools/package/command_table.py.
+"""Writes the completions of `rim` and its scripts for bash, zsh and fish, out of tools/package/command_table.py.
 
-    tools/package/completions.py DIR       writes rim.bash, _rim, rim.fish and those of rim-manifest into DIR
+    tools/package/completions.py DIR       writes rim.bash, _rim, rim.fish and those of the scripts into DIR
 
 To try them:
 
@@ -38,6 +38,11 @@ def prefix_of(program):
 def shown_names(option):
     """The names of an option that are worth completing: those that say what it is, where it has such."""
     return [name for name in option.names if len(name.lstrip("-")) > 1] or list(option.names)
+
+
+def first_of(program):
+    """What stands for a subcommand before the first word, where a program has none."""
+    return command_table.ALONE if program.is_alone else ""
 
 
 def has_launches(program):
@@ -114,7 +119,7 @@ PREFIX_offer() {
 }
 
 PREFIX() {
-    local IFS=$' \t\n' words cur command= operands=() awaits= ended= kind= word at
+    local IFS=$' \t\n' words cur command=FIRST operands=() awaits= ended= kind= word at
     COMPREPLY=()
     PREFIX_words
     cur=${words[${#words[@]} - 1]}
@@ -188,9 +193,10 @@ def bash_values(program):
 
 
 def bash_operands(program):
-    rows = [(" 0", "'words " + " ".join(command.name for command in program.commands) + "'")]
-    rows += [(f"{command.name} {at}", kind) for command in program.commands for at, kind in enumerate(command.operands)]
-    return "\n".join(f'    "{pattern}") kind={kind if isinstance(kind, str) else bash_kind(kind)} ;;' for pattern, kind in rows)
+    rows = [] if program.is_alone else [('" 0"', "'words " + " ".join(command.name for command in program.commands) + "'")]
+    rows += [(f'"{command.name} "*' if command.repeats else f'"{command.name} {at}"', kind)
+             for command in program.commands for at, kind in enumerate(command.operands)]
+    return "\n".join(f'    {pattern}) kind={kind if isinstance(kind, str) else bash_kind(kind)} ;;' for pattern, kind in rows)
 
 
 def bash_options(program):
@@ -201,7 +207,7 @@ def bash_options(program):
 
 def bash(program):
     return filled(BASH, LAUNCHES=BASH_LAUNCHES if has_launches(program) else "", VALUES=bash_values(program),
-                  OPERANDS=bash_operands(program), OPTIONS=bash_options(program), NAMES=NAMES.replace("MANIFEST", '-- "$manifest"'),
+                  OPERANDS=bash_operands(program), OPTIONS=bash_options(program), FIRST=first_of(program), NAMES=NAMES.replace("MANIFEST", '-- "$manifest"'),
                   TITLE=program.name, MADE=MADE, PREFIX=prefix_of(program))
 
 
@@ -240,6 +246,22 @@ else
     compdef PREFIX TITLE
 fi
 """
+# The same of a program without subcommands.
+ZSH_ALONE = r"""#compdef TITLE
+# zsh completion of TITLE, MADE
+
+LAUNCHESPREFIX() {
+    local -a line
+    local -A opt_args
+    _arguments -SWORDS
+}
+
+if [[ $funcstack[1] == _TITLE ]]; then
+    PREFIX "$@"
+else
+    compdef PREFIX TITLE
+fi
+"""
 ZSH_LAUNCHES = r"""# The names of the launches of the manifest on the line.
 PREFIX_launches() {
     local manifest=${(Q)line[1]} expl
@@ -270,21 +292,30 @@ def zsh_option(option, stars):
     return f"{start}{brace}'[{option.about}]{value}'"
 
 
-def zsh_case(program, command):
-    # what rim-manifest is given more than once makes a list of launches, and rim takes nothing twice
-    stars = not command.operands
+def zsh_words(program, command, space):
+    # what rim-manifest is given more than once makes a list of launches, the scripts take some options again, and rim takes nothing twice
+    stars = not command.operands or program.is_alone
     words = [zsh_option(option, stars) for option in program.options_of(command)]
-    words += [f"'{at}:{zsh_kind(kind)}'" for at, kind in enumerate(command.operands, 1)]
-    lines = "".join(f" \\\n                {word}" for word in words)
+    words += [f"'{'*' if command.repeats else at}:{zsh_kind(kind)}'" for at, kind in enumerate(command.operands, 1)]
+    return "".join(f" \\\n{space}{word}" for word in words)
+
+
+def zsh_case(program, command):
+    lines = zsh_words(program, command, " " * 16)
     return f"        {command.name})\n            _arguments -S{lines} && ret=0\n            ;;"
 
 
 def zsh(program):
+    launches = ZSH_LAUNCHES if has_launches(program) else ""
+    names = NAMES.replace("MANIFEST", '-- "$manifest"')
+    if program.is_alone:
+        return filled(ZSH_ALONE, LAUNCHES=launches, WORDS=zsh_words(program, program.commands[0], " " * 8), NAMES=names, TITLE=program.name,
+                      MADE=MADE, PREFIX=prefix_of(program))
     before = "\n".join(f"        {zsh_option(option, False)} \\" for option in program.options_before())
     commands = "\n".join(f"            '{command.name}:{command.about}'" for command in program.commands)
     cases = "\n".join(zsh_case(program, command) for command in program.commands)
-    return filled(ZSH, LAUNCHES=ZSH_LAUNCHES if has_launches(program) else "", BEFORE=before, COMMANDS=commands, CASES=cases,
-                  NAMES=NAMES.replace("MANIFEST", '-- "$manifest"'), TITLE=program.name, MADE=MADE, PREFIX=prefix_of(program))
+    return filled(ZSH, LAUNCHES=launches, BEFORE=before, COMMANDS=commands, CASES=cases, NAMES=names, TITLE=program.name, MADE=MADE,
+                  PREFIX=prefix_of(program))
 
 
 # ---- fish
@@ -293,7 +324,7 @@ FISH = r"""# fish completion of TITLE, MADE
 
 # The words before the cursor that are no options and no values of options, one a line.
 function PREFIX_operands
-    set -l awaits no
+FIRST    set -l awaits no
     set -l ended no
     set -l words (commandline -opc)
     set -e words[1]
@@ -351,15 +382,22 @@ def fish_option(option):
     return f"{' '.join(names)}{value} -d '{option.about}'"
 
 
+def fish_place(program, option):
+    """Where an option of all subcommands may be: anywhere, unless some subcommand has it not."""
+    names = [command.name for command in program.commands if option in program.options_of(command)]
+    return "" if len(names) == len(program.commands) else f" -n 'PREFIX_in {' '.join(names)}'"
+
+
 def fish_lines(program):
-    rows = [("", option) for option in program.common] + [(" -n 'PREFIX_at 0'", option) for option in program.alone]
+    rows = [(fish_place(program, option), option) for option in program.common] + [(" -n 'PREFIX_at 0'", option) for option in program.alone]
     rows += [(f" -n 'PREFIX_in {command.name}'", option) for command in program.commands for option in command.options]
-    if program.common != (command_table.HELP,):
+    if program.common not in ((), (command_table.HELP,)):
         # all but help are of a subcommand
         rows = [(" -n 'not PREFIX_at 0'" if not where and option is not command_table.HELP else where, option) for where, option in rows]
-    lines = [f"complete -c TITLE -n 'PREFIX_at 0' -a {command.name} -d '{command.about}'" for command in program.commands]
+    lines = [f"complete -c TITLE -n 'PREFIX_at 0' -a {command.name} -d '{command.about}'" for command in program.commands if command.about]
     lines += [f"complete -c TITLE{where} {fish_option(option)}" for where, option in rows]
-    places = {(at, kind) for command in program.commands for at, kind in enumerate(command.operands, 1)}
+    lines += [f"complete -c TITLE -n 'PREFIX_in {command.name}' {fish_kind(command.operands[-1])}" for command in program.commands if command.repeats]
+    places = {(at, kind) for command in program.commands if not command.repeats for at, kind in enumerate(command.operands, 1)}
     for at, kind in sorted(places):
         names = " ".join(command.name for command in program.commands if command.operands[at - 1:at] == (kind,))
         lines.append(f"complete -c TITLE -n 'PREFIX_at {at} {names}' {fish_kind(kind)}")
@@ -369,7 +407,8 @@ def fish_lines(program):
 def fish(program):
     options = [option for command in program.commands for option in program.options_of(command)]
     valued = sorted({name for option in options if option.value for name in option.names})
-    return filled(FISH, LAUNCHES=FISH_LAUNCHES if has_launches(program) else "", LINES=fish_lines(program), VALUED=" ".join(valued),
+    first = f"    echo {first_of(program)}\n" if program.is_alone else ""
+    return filled(FISH, FIRST=first, LAUNCHES=FISH_LAUNCHES if has_launches(program) else "", LINES=fish_lines(program), VALUED=" ".join(valued),
                   NAMES=NAMES.replace("MANIFEST", "-- $manifest"), TITLE=program.name, MADE=MADE, PREFIX="_" + prefix_of(program))
 
 

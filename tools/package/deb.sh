@@ -71,7 +71,7 @@ put_documents() {
 
 put_completions() {
     tools/package/completions.py "$work/completions"
-    for program in rim rim-manifest; do
+    for program in rim rim-manifest rim-match rim-compare rim-verify rim-endorse; do
         [ "$program" = rim ] || [ -f "$program" ] || continue
         put 644 "$work/completions/$program.bash" "share/bash-completion/completions/$program"
         put 644 "$work/completions/_$program" "share/zsh/vendor-completions/_$program"
