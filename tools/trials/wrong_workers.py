@@ -42,6 +42,12 @@ BODIES = [
         "job_workers_tests",
     ),
     (
+        "the gate is not called when a worker begins",
+        "job_workers/src/worker.rt",
+        [("    gate.start(worker);\n", "")],
+        "job_workers_tests",
+    ),
+    (
         "workers take turns",
         "job_workers/src/workers.rt",
         [

@@ -1,11 +1,14 @@
-//! What is called around each job.
+//! What is called when a worker begins, and around each job.
 use job_board::JobId;
 use rim_desc::Lanes;
 
-/// Is called by a worker that holds no lock: before a job is run, and after it was put.
+/// Is called by a worker that holds no lock: when it begins, before a job is run, and after it was put.
 pub trait Gate {
     /// Is called once, before the first worker is started, with the numbers of all pages and launches.
     fn begin(&self, _pages: usize, _launches: usize) {}
+
+    /// Is called by each worker once, when it begins and before its first job.
+    fn start(&self, _worker: usize) {}
 
     fn before(&self, worker: usize, job: JobId);
 

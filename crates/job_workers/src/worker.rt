@@ -46,6 +46,7 @@ pub(crate) fn work<'a, L: Run, G: Gate, R: Wait>(
     share: &mut Share<L>,
 ) {
     share.note_start();
+    gate.start(worker);
     let mut early = Early::new(rt, board, gate.lanes());
     for _ in rt.forever() {
         let given = if gate.lets_launches_wait() {

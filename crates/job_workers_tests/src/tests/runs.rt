@@ -24,10 +24,11 @@ use std::thread::Threads;
 /// Six pages of the same byte, and one that ends early.
 const BYTES: [u8; 25_000] = [7; 25_000];
 
-/// Holds the first page until another was put, for a number of turns; and counts the pages that worker 0 and the others
-/// put. There are no launches, but a worker takes by another call where launches may wait.
+/// Holds the first page until another was put, for a number of turns; and counts the workers that begin, and the pages that worker 0 and
+/// the others put. There are no launches, but a worker takes by another call where launches may wait.
 #[derive(Drop)]
 struct Hold {
+    starts: AtomicU64,
     begun: AtomicU64,
     first: AtomicU64,
     others: AtomicU64,
@@ -37,6 +38,10 @@ struct Hold {
 }
 
 impl Gate for Hold {
+    fn start(&self, _worker: usize) {
+        self.starts.fetch_add(1, Ordering::SeqCst);
+    }
+
     fn before(&self, _worker: usize, _job: JobId) {
         if self.begun.fetch_add(1, Ordering::SeqCst) > 0 {
             return;
@@ -66,6 +71,7 @@ impl Gate for Hold {
 
 fn holding(turns: u64, lets_wait: bool) -> Hold {
     Hold {
+        starts: AtomicU64::new(0),
         begun: AtomicU64::new(0),
         first: AtomicU64::new(0),
         others: AtomicU64::new(0),
@@ -111,6 +117,11 @@ fn run<L: Run + Send + Sync, R: Threads + Wait + Abort + Sync>(
     let tally = run_workers_on(rt, gate, &board, shares, &mut counts, &mut [], stack_size);
     check(rt, tally.pages == 7, "seven pages");
     check(rt, tally.started == started, "workers that are started");
+    check(
+        rt,
+        gate.starts.load(Ordering::SeqCst) == started as u64,
+        "workers that begin",
+    );
     check_counts(rt, gate, &counts);
     Ok(())
 }
