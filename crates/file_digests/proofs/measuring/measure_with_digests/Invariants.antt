@@ -1,0 +1,5 @@
+use Rattle.file_digests.proofs.measuring.measure_with_digests.Given as goal
+
+-- the run's own files
+abbrev pub ghosts-run : goal.ghosts-run
+ghosts-run g a = record { files = a.accepted.now.files }
