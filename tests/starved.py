@@ -96,13 +96,13 @@ BYTES = {
     **{call: ["two GiB of RAM", "both algorithms", "all kinds"] for call in ("place", "list", "LaunchPlan::read", "audit", "listing", "trace")},
     "Tables::ripas_runs": ["both algorithms"], "Tables::data_pages": ["both algorithms"], "Core::new": ["both algorithms"],
     **{call: ["both algorithms", "all kinds"] for call in ("Table::reserve", "DigestRow::reserve", "BoardState::new")},
-    **{call: list(RELEASES) for call in ("measure_alone", "measure_release", "measure_release/no-waiting", "audit_report")},
+    **{call: list(RELEASES) for call in ("measure_alone", "measure_release", "measure_release/no-waiting", "measure_with_digests", "audit_report")},
     "check_launches": ["both algorithms", "a page twice", "all kinds"],
     "json_report": ["both algorithms", "all kinds", "a list that is refused", "a launch that is not laid out"],
     **{call: ["both algorithms", "all kinds", "a list that is refused", "a launch that is not laid out"] for call in ("map_text", "map_json")},
     "placed_devicetree": ["all kinds"],
 }
-WORKERS = ["measure_release", "measure_release/no-waiting"]
+WORKERS = ["measure_release", "measure_release/no-waiting", "measure_with_digests"]
 MANIFESTS = ["read_manifest", "check_manifest"]
 
 

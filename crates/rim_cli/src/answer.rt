@@ -1,5 +1,6 @@
 //! The answer to a request, made whole.
 ghost use Rattle.std.specs.Prelude.{◌≡◌, ◌⊎◌, ◌<◌, ◌≤◌, Err, IfErr, IfOk, IsOkAnd, Ok, Some, if◌then◌else◌, length, map, position, true};
+ghost use Rattle.sha2.specs.Sha256.{sha256};
 ghost use Rattle.ipa_layout.specs.Files.{bytes_of_files};
 ghost use Rattle.rim_accepted.specs.Lines.{has_refused, outcomes_for, seen};
 ghost use Rattle.rim_pages.specs.Pages.{page_keys};
@@ -18,12 +19,13 @@ use crate::found::{read_launch, read_release, release_in};
 use crate::freed::keep_freed_memory;
 use crate::mapping::map;
 use crate::replaying::replay;
+use file_digests::{Digested, measure_with_digests};
 use refusal::NoMemory;
 use rim_check::{MarkedLine, refusals};
 use rim_json::json_report;
 use rim_release::{
-    AcceptedRelease, Gate, Lanes, LoadedRelease, Outcome, Report, StartFault, accept_all,
-    audit_with_gate, listing_or_refusal, measure_accepted, placed_devicetree, show_fdt, show_image,
+    AcceptedRelease, Gate, Lanes, LoadedRelease, Report, StartFault, accept_all, audit_with_gate,
+    listing_or_refusal, measure_accepted, placed_devicetree, show_fdt, show_image,
     trace_or_refusal,
 };
 use rim_words::{Ask, FileAsk, Format, LaunchAsk, ManifestAsk, Request, VERSION};
@@ -185,26 +187,36 @@ fn report<R: Threads + Wait + Sync, G: Gate + Sync>(
         (bytes_of_files loaded.entry.files.now) loaded.entry.release.now.launches) }
 {
     let accepted = accept_all(alloc, loaded)?;
-    let outcome = measure_accepted(rt, alloc, gate, &accepted, workers as usize)?;
-    let has_refused = outcome.has_refused;
-    let text = match format {
-        Format::Text => outcome.report,
-        Format::Json => report_as_json(alloc, path, bytes, &accepted, &outcome)?,
-    };
-    Ok(Report { text, has_refused })
+    match format {
+        Format::Text => {
+            let outcome = measure_accepted(rt, alloc, gate, &accepted, workers as usize)?;
+            Ok(Report {
+                text: outcome.report,
+                has_refused: outcome.has_refused,
+            })
+        }
+        Format::Json => {
+            let digested = measure_with_digests(rt, alloc, gate, &accepted, workers as usize)?;
+            Ok(Report {
+                text: report_as_json(alloc, path, bytes, &accepted, &digested)?,
+                has_refused: digested.outcome.has_refused,
+            })
+        }
+    }
 }
 
-/// The report as JSON.
+/// The report as JSON, of what a run came to and the digests of the files.
 fn report_as_json(
     alloc: Global,
     path: &str,
     bytes: &[u8],
     accepted: &AcceptedRelease<'_>,
-    outcome: &Outcome,
+    digested: &Digested,
 ) -> Result<Vec<u8>, NoMemory>
-    requires launches { map seen outcome.now.launches.items
+    requires digests { digested.now.digests.items ≡ map sha256 accepted.now.files }
+    requires launches { map seen digested.now.outcome.launches.items
         ≡ outcomes_for accepted.now.files accepted.now.release.launches }
-    requires pages { outcome.now.pages
+    requires pages { digested.now.outcome.pages
         ≡ length (page_keys accepted.now.files accepted.now.release.launches) }
     ensures { IfOk result (λ text. IsReportAsJson path.now bytes.now
         accepted.now.files accepted.now.release text.items) }
@@ -217,9 +229,10 @@ fn report_as_json(
         path,
         bytes,
         accepted,
-        &outcome.launches,
+        &digested.digests,
+        &digested.outcome.launches,
         &remarks,
-        outcome.pages,
+        digested.outcome.pages,
     )
 }
 

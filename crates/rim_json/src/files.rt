@@ -8,19 +8,7 @@ ghost use Rattle.rim_json.specs.ReportJson.{file_json, files_json};
 use launch_json::{FileDigest, put_count, put_text};
 use rim_accepted::LoadedRelease;
 use serde_json::{Map, Value};
-use sha2::{Digest, Sha256};
 use std::alloc::{AllocError, Global};
-
-/// The digest of each file (SHA-256, FIPS 180-4).
-pub(crate) fn file_digests(alloc: Global, files: &[Vec<u8>]) -> Result<Vec<FileDigest>, AllocError>
-    ensures { IfOk result (λ digests. digests.items ≡ map sha256 (bytes_of_files files.now)) }
-{
-    let mut digests = Vec::with_capacity(alloc, files.len())?;
-    for file in files {
-        digests.push(Sha256::digest(file.as_slice()))?;
-    }
-    Ok(digests)
-}
 
 /// Each file of a release, with its digest.
 pub(crate) fn file_values(

@@ -10,7 +10,7 @@ ghost use Rattle.rim_accepted.specs.Lines.{seen};
 ghost use Rattle.rim_json.specs.ReportJson.{edited_json, file_json, items_at, launch_json, launches_json, remark_at, report_text, reported_data, with_outcome, with_refusal};
 ghost use Rattle.rim_json.specs.inside.Seen.{news_of, reported};
 
-use crate::files::{file_digests, file_value, file_values};
+use crate::files::{file_value, file_values};
 use crate::launch::{items, put_edited, put_launch, put_outcome, put_refusal};
 use launch_json::{FileDigest, Members, json_text, put_count, put_text, put_values};
 use map_rows::Shown;
@@ -23,7 +23,7 @@ use sha2::{Digest, Sha256};
 use shown_text::Remark;
 use std::alloc::{AllocError, Global};
 
-/// What a report is made of: what `json_report` is given.
+/// What a report is made of: what `json_report` is given, but for the digests of the files.
 #[derive(Clone, Copy)]
 struct Reported<'a, 'b> {
     program: &'a str,
@@ -36,8 +36,9 @@ struct Reported<'a, 'b> {
 }
 
 /// The report that a program, by its name and version, makes of a release: of the manifest with this path, as it was given, and these bytes;
-/// of the release's files, its launches and their places; of what came of each launch, and of the remark that says why it is refused, if it
-/// is, both in the manifest's order; and of how many different measured pages the release has.
+/// of the release's files, its launches and their places; of the digest of each file; of what came of each launch, and of the remark that says
+/// why it is refused, if it is; and of how many different measured pages the release has. Digests, outcomes and remarks are in the manifest's
+/// order.
 ///
 /// It is one JSON object without spaces, and a line feed. Its members are `files` and
 /// `launches`, each in the manifest's order; `manifests`, of which the manifest's own file is the only one, so that reports can be joined;
@@ -47,17 +48,19 @@ struct Reported<'a, 'b> {
 /// `block_level`, `items`, `name`, `parameters`, `ram`, `recs`, `rpv` and `s2sz`, and as `edited_sha256` the digest of the devicetree that it
 /// edits, if any; and the measurement, as `rim` in lower case hexadecimal
 /// digits and as `rim_base64` in base64 (RFC 4648, section 4); or `refused`, the word of its refusal, and `refusal`, the line that says
-/// why. Each byte of the files is hashed once.
+/// why. The files are not hashed here: their digests are given.
 pub fn json_report<'a>(
     alloc: Global,
     program: &'a str,
     path: &'a str,
     bytes: &'a [u8],
     accepted: &'a AcceptedRelease<'_>,
+    digests: &'a [FileDigest],
     outcomes: &'a [Result<Measurement, AuditFault>],
     remarks: &'a [Option<Remark>],
     pages: u64,
 ) -> Result<Vec<u8>, NoMemory>
+    requires { digests.now ≡ map sha256 accepted.now.files }
     ensures { IfOk result (λ text. text.items ≡ report_text (record {
       program = program.now;
       path = path.now;
@@ -80,14 +83,20 @@ pub fn json_report<'a>(
             remarks,
             pages,
         },
+        digests,
     )
 }
 
-fn report_of(alloc: Global, given: &Reported<'_, '_>) -> Result<Vec<u8>, NoMemory>
+/// The report, with these digests of the release's files.
+fn report_of(
+    alloc: Global,
+    given: &Reported<'_, '_>,
+    digests: &[FileDigest],
+) -> Result<Vec<u8>, NoMemory>
+    requires { digests.now ≡ map sha256 given.now.accepted.now.files }
     ensures { IfOk result (λ text. text.items ≡ report_text (reported given.now)) }
 {
-    let digests = file_digests(alloc, given.accepted.files())?;
-    let value = report_value(alloc, given, &digests)?;
+    let value = report_value(alloc, given, digests)?;
     json_text(alloc, &value)
 }
 

@@ -56,6 +56,8 @@ pub enum ReleaseCall {
     ByWorkers,
     /// By three workers, whose gate lets no launch wait.
     NoWaiting,
+    /// By three workers, with the digests of the files.
+    WithDigests,
     JsonReport,
     Audit,
     AuditReport,
@@ -69,7 +71,7 @@ pub enum ReleaseCall {
 }
 
 /// The calls, each after its name.
-pub const CALLS: [(&str, Call); 36] = [
+pub const CALLS: [(&str, Call); 37] = [
     ("fdt_tree::read", Call::Tree(TreeCall::Read)),
     ("Tree::set", Call::Tree(TreeCall::Set)),
     ("Tree::set_memory", Call::Tree(TreeCall::SetMemory)),
@@ -99,6 +101,10 @@ pub const CALLS: [(&str, Call); 36] = [
     (
         "measure_release/no-waiting",
         Call::Release(ReleaseCall::NoWaiting),
+    ),
+    (
+        "measure_with_digests",
+        Call::Release(ReleaseCall::WithDigests),
     ),
     ("json_report", Call::Release(ReleaseCall::JsonReport)),
     ("audit", Call::Release(ReleaseCall::Audit)),

@@ -1,9 +1,11 @@
 //! Calls on a release and its files.
-ghost use Rattle.std.specs.Prelude.{◌≡◌, ◌<◌, length, vec_len};
+ghost use Rattle.std.specs.Prelude.{◌≡◌, ◌<◌, length, map, vec_len};
+ghost use Rattle.sha2.specs.Sha256.{sha256};
 
 use crate::calls::ReleaseCall;
 use crate::inputs::{files_of, split};
 use crate::trial::{Fault, Seen, Trial, digest, made, remarks_digest, text_digest, tried};
+use file_digests::{Digested, measure_with_digests};
 use refusal::NoMemory;
 use rim_accepted::accept_with_list;
 use rim_check::{LaunchCheck, check_launches, refusals};
@@ -12,8 +14,8 @@ use rim_json::json_report;
 use rim_map::{RefusedLaunch, map_json, map_text, refused_json, refused_text};
 use rim_release::{
     AcceptedRelease, AuditFault, Files, Gate, JobId, LoadedLaunch, LoadedRelease, Outcome, Release,
-    Report, StartFault, accept_all, audit, audit_report, listing, measure_accepted, measure_alone,
-    measure_release, placed_devicetree, read_manifest, trace_or_refusal,
+    Report, StartFault, accept_all, audit, audit_report, listing, measure_alone, measure_release,
+    placed_devicetree, read_manifest, trace_or_refusal,
 };
 use shown_text::{Remark, Word};
 use std::alloc::{AllocError, Global};
@@ -39,6 +41,7 @@ pub fn seen<R: Threads + Wait + Sync + Print + AllocGlobal>(
         }
         ReleaseCall::ByWorkers => by_workers(trial, &release, &files, true),
         ReleaseCall::NoWaiting => by_workers(trial, &release, &files, false),
+        ReleaseCall::WithDigests => with_digests(trial, loaded),
         ReleaseCall::JsonReport => as_json(trial, text, loaded),
         ReleaseCall::AuditReport =>
             tried!(trial, audit_report(alloc, &release, &files) => text_digest, NoMemory),
@@ -117,18 +120,20 @@ fn as_json<R: Threads + Wait + Sync + Print + AllocGlobal>(
     let alloc = trial.rt.alloc();
     let accepted = accept_all(alloc, loaded)?;
     let gate = &mut Counting::new(true);
-    let Ok(outcome) = measure_accepted(trial.rt, alloc, gate, &accepted, 1) else {
+    let Ok(digested) = measure_with_digests(trial.rt, alloc, gate, &accepted, 1) else {
         return Err(Fault::Input);
     };
-    tried!(trial, reported(alloc, manifest, &accepted, &outcome) => text_digest, NoMemory)
+    tried!(trial, reported(alloc, manifest, &accepted, &digested) => text_digest, NoMemory)
 }
 
 fn reported(
     alloc: Global,
     manifest: &[u8],
     accepted: &AcceptedRelease<'_>,
-    outcome: &Outcome,
-) -> Result<Vec<u8>, NoMemory> {
+    digested: &Digested,
+) -> Result<Vec<u8>, NoMemory>
+    requires { digested.now.digests.items ≡ map sha256 accepted.now.files }
+{
     let remarks = refusals(alloc, accepted)?;
     json_report(
         alloc,
@@ -136,13 +141,14 @@ fn reported(
         "manifest.toml",
         manifest,
         accepted,
-        &outcome.launches,
+        &digested.digests,
+        &digested.outcome.launches,
         &remarks,
-        outcome.pages,
+        digested.outcome.pages,
     )
 }
 
-/// Counts the calls around jobs.
+/// Counts the calls when a worker begins, and around jobs.
 #[derive(Drop)]
 struct Counting {
     calls: AtomicU64,
@@ -163,6 +169,10 @@ impl Counting {
 }
 
 impl Gate for Counting {
+    fn start(&self, _worker: usize) {
+        self.calls.fetch_add(1, Ordering::SeqCst);
+    }
+
     fn before(&self, _worker: usize, _job: JobId) {
         self.calls.fetch_add(1, Ordering::SeqCst);
     }
@@ -204,6 +214,38 @@ fn by_workers<R: Threads + Wait + Sync + Print + AllocGlobal>(
         Err(StartFault::NoMemory) => Ok(None),
         Err(_) => Err(Fault::Input),
     }
+}
+
+/// A run of three workers that hash the files too. Where memory is refused no worker has begun.
+fn with_digests<R: Threads + Wait + Sync + Print + AllocGlobal>(
+    trial: &Trial<'_, R>,
+    loaded: LoadedRelease<'_>,
+) -> Result<Seen, Fault> {
+    let (rt, alloc) = (trial.rt, trial.rt.alloc());
+    let accepted = accept_all(alloc, loaded)?;
+    let mut gate = Counting::new(true);
+    match made!(
+        trial,
+        measure_with_digests(rt, alloc, &mut gate, &accepted, WORKERS)
+    ) {
+        Ok(digested) => {
+            let started = digested.outcome.started;
+            trial.say(format!(in alloc; "{started} started")?.as_str())?;
+            Ok(Some(digested_digest(&digested)))
+        }
+        Err(_) if gate.calls() > 0 => Err(Fault::Changed),
+        Err(StartFault::NoMemory) => Ok(None),
+        Err(_) => Err(Fault::Input),
+    }
+}
+
+/// A digest of a report and of the files' digests.
+fn digested_digest(digested: &Digested) -> u64 {
+    let mut value = outcome_digest(&digested.outcome);
+    for file in &digested.digests {
+        value = value.rotate_left(1) ^ digest(file);
+    }
+    value
 }
 
 /// A digest of a report; 0 where the shares do not add up to the pages.
