@@ -7,7 +7,6 @@ mod excerpt;
 mod finding_detail;
 mod found;
 mod json;
-mod kernel_front;
 mod launches;
 mod manifest;
 mod marking;

@@ -1,7 +1,7 @@
 //! What helps to mend a launch that is refused, beside the reason. That it is true of the launch is tested alone.
 
-use crate::kernel_front::{KernelFront, front_of};
 use fdt_tree::FdtFault;
+use file_front::{KernelFront, devicetree_text, front_of};
 use ipa_layout::{Extent, IpaRange, ItemReason, LayoutReason};
 use rim_accepted::LaunchReason;
 use rim_desc::GRANULE_SIZE;
@@ -86,27 +86,6 @@ impl fmt::Display for Mending<'_> {
                 write!(f, "the step \"{later}\" has it, and comes later")
             }
         }
-    }
-}
-
-/// Why a devicetree cannot be edited (Devicetree Specification, "Flattened Devicetree (DTB) Format").
-fn devicetree_text(fault: FdtFault) -> &'static str {
-    match fault {
-        FdtFault::Short => "it has fewer than the 40 bytes of a header",
-        FdtFault::BadMagic => "it does not begin with the bytes d0 0d fe ed",
-        FdtFault::BadVersion => "its version is not 17, or not compatible with 17",
-        FdtFault::BadBlock => "a block that its header names is not aligned or not within the file",
-        FdtFault::BadReserve => "its memory reservations have no end",
-        FdtFault::BadToken => "a token of its structure is cut off, unknown or out of place",
-        FdtFault::BadName => "a name in it is empty or has a character that no name may have",
-        FdtFault::BadString => "the name of a property is not within its strings",
-        FdtFault::LateProperty => "a property comes after a child of its node",
-        FdtFault::TooDeep => "a node is deeper than 64",
-        FdtFault::BadCells => {
-            "#address-cells or #size-cells of its root is not 1 or 2, or an address does not fit"
-        }
-        FdtFault::TooLarge => "it has, or would have, more than 2097152 bytes",
-        FdtFault::NoMemory => "it takes more memory than there is",
     }
 }
 

@@ -4,7 +4,7 @@ use std::fmt;
 
 /// A file that is given as a kernel now and then.
 #[derive(Clone, Copy)]
-pub(crate) enum KernelFront {
+pub enum KernelFront {
     /// One that is packed so.
     Packed(&'static str),
     /// An ELF file, as `vmlinux` is.
@@ -62,7 +62,7 @@ const DEVICETREE: &[u8] = &[0xd0, 0x0d, 0xfe, 0xed];
 const ZBOOT: &[u8] = b"zimg";
 
 /// What a file is, by its first bytes, where they are known.
-pub(crate) fn front_of(bytes: &[u8]) -> Option<KernelFront> {
+pub fn front_of(bytes: &[u8]) -> Option<KernelFront> {
     if let Some((_, word)) = PACKED.iter().find(|(front, _)| bytes.starts_with(front)) {
         return Some(KernelFront::Packed(*word));
     }
