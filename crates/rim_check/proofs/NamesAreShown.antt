@@ -17,7 +17,7 @@ name-plain (b ∷ name) named =
     let parts = and_parts (is_name_byte b) (list_all is_name_byte name) named in
     and_from (is_plain b) (list_all is_plain name) (byte-plain b parts.0) (name-plain name parts.1)
 
--- so what is known of the place of such a launch, and of so many others, is the place
+-- what is known of the place of such a launch, and of others that are counted, is the place
 pub names-are-shown : (name place : List ℕ) (others : ℕ) → others < 2 ^ 64 → is_name name ≡ true
     → IsKnown (Some (launch_text name others)) place → place ≡ launch_text name others
 names-are-shown name place others low named known = known (launch-plain name others low (name-plain name (and_parts _ (list_all is_name_byte name) named).1))

@@ -1,5 +1,5 @@
 -- The remarks of warnings, one after another.
-use Rattle.std.proofs.Common.{◌≡◌, ◌∙◌, ◌<◌, ℕ, zero, suc, List, [], ◌∷◌, ◌++◌, Some, arith, get_or, length, map}
+use Rattle.std.proofs.Common.{◌≡◌, ◌∙◌, ◌<◌, ◌^◌, ℕ, zero, suc, List, [], ◌∷◌, ◌++◌, Some, arith, get_or, length, map}
 use Rattle.std.proofs.Common.{refl, subst, sym}
 use Rattle.std.specs.List.{AllByRecursion, slice_get}
 use Rattle.std.proofs.lemmas.List.{append-nil}
@@ -27,14 +27,14 @@ at-place P f (y ∷ ys) (suc i) x low is all = at-place P f ys i x (omega (arith
 
 -- the warning at a place adds its remark
 pub warned-next : (files : List (List ℕ)) (ls : List NamedData) (w : Warnings) (i : ℕ) (x : Warning) (launch : NamedData) (old new : List Remark)
-    → i < length w.found.items → x ≡ get_or w.found.items i x → slice_get ls x.launch ≡ Some launch
+    → i < length w.found.items → x ≡ get_or w.found.items i x → slice_get ls x.launch ≡ Some launch → x.others < 2 ^ 64
     → AddsLine (warning_said launch.name x.others) old new → AreWarned files ls (numbers_of w) → ShowsEach files ls old → ShowsEach files ls new
-warned-next files ls w i x launch old new low is there adds are shows =
+warned-next files ls w i x launch old new low is there few adds are shows =
     let accepted : IsAcceptedAt files ls x.launch = at-place (IsAcceptedAt files ls) (λ (y : Warning). y.launch) w.found.items i x low is are in
     let same : accepted.launch ≡ launch = same_Some _ _ (sym accepted.there ∙ there) in
     let own : IsWarning files ls (warning_said launch.name x.others) =
     subst (λ (l : NamedData). IsWarning files ls (warning_said l.name x.others)) same
-    (accepted.launch, x.launch, x.others, accepted.there, accepted.accepted, refl) in
+    (accepted.launch, x.launch, x.others, few, accepted.there, accepted.accepted, refl) in
     record {
       said = shows.said ++ warning_said launch.name x.others ∷ [];
       each = each-append (IsWarning files ls) shows.said (warning_said launch.name x.others ∷ []) shows.each (own, tt);

@@ -1,5 +1,5 @@
 //! The warnings of a release: what is rarely meant in launches that are accepted, said once for all launches that have it.
-ghost use Rattle.std.specs.Prelude.{◌<◌, OnOk};
+ghost use Rattle.std.specs.Prelude.{◌<◌, ◌^◌, OnOk};
 ghost use Rattle.shown_text.specs.Lines.{AddsAll, AddsLine};
 ghost use Rattle.rim_check.specs.Warned.{more_said, warning_said};
 
@@ -127,8 +127,9 @@ fn is_same(one: &Remark, other: &Remark) -> bool {
 
 /// Adds the remark of a warning about a launch of this name, and how many others have the same.
 fn push_warning(remarks: &mut Vec<Remark>, name: &str, warning: &Warning) -> Result<(), NoMemory>
-    ensures { OnOk result (AddsLine (warning_said name.now warning.now.others)
+    ensures adds { OnOk result (AddsLine (warning_said name.now warning.now.others)
         remarks.old.items remarks.new.items) }
+    ensures few { warning.now.others < 2 ^ 64 }
 {
     let alloc = *remarks.allocator();
     let mut remark = Remark::new(alloc, Word::Warning);

@@ -20,11 +20,12 @@ loop-warning-preserved c = λ files are. elim c.match-get.branch [
       let there = slice_get_read launches (length launches) c.warning-item.result.launch launch refl low w.in-Some.ensures.lookup.1 in
       let others = c.warning-item.result.others in
       let adds = subst (λ (name : List ℕ). AddsLine (warning_said name others) c.loop-warning.remarks.items w.push_warning.new.remarks.items)
-      w.name.ensures w.in_ok-push_warning.ensures in
+      w.name.ensures w.in_ok-push_warning.ensures.adds in
       let item = c.warning-item.is ∙ ap (λ
       (ws : List Warning). get_or ws c.loop-warning.warning-index c.warning-item.result) c.deref-warning-items.ensures.value in
       let inside = subst (λ (ws : List Warning). c.loop-warning.warning-index < length ws) c.deref-warning-items.ensures.value c.loop-warning-test.true in
-      rw w.remarks-is (warned-next files launches c.args.self.now c.loop-warning.warning-index c.warning-item.result launch _ _ inside item there adds are
+      rw w.remarks-is (warned-next files launches c.args.self.now c.loop-warning.warning-index c.warning-item.result launch _ _ inside item there
+      w.in_ok-push_warning.ensures.few adds are
       (c.loop-warning.invariant files are))
   | in_default w ↦ rw w.remarks-is (c.loop-warning.invariant files are)
 ]
