@@ -27,8 +27,8 @@ FAULTS = ["rim_cli/src/fault.rt", "rim_manifest/src/fault.rt", "rim_pages/src/fa
           "rim_show/src/fault.rt", "rim_replay/src/fault.rt"]
 DEFINITION = CRATES / "rim_words/src/definition.rt"
 # The arguments of a subcommand, where the command line is defined: operands by the names that usage texts show, and options.
-OPERAND = r'(?<=[\[ ])[A-Z]+(?=[,\]])|(?<=", ")[A-Z]+(?=", ")'
-OPTION = r'(?<=Argument::Flag\()"([\w-]+)"|(?<=Argument::)(Workers)\b'
+OPERAND = r'(?<=[\[ ])(?!EXPLAIN\b)[A-Z]+(?=[,\]])|(?<=", ")[A-Z]+(?=", ")'
+OPTION = r'(?<=Argument::Flag\()"([\w-]+)"|(?<=Argument::)(Workers|Output)\b|\b(EXPLAIN)\b'
 
 
 def found(pattern, *paths):
@@ -133,7 +133,8 @@ def faults_of_rim():
     every = {name for command in rim.commands for name in names_of(command.options)} | names_of(rim.options_before())
     lines += differences("options", {name for name in every if name.startswith("--")}, set(named()["option"]))
     for command in rim.commands:
-        lines += differences(command.name, names_of(command.options), added.get(command.name, set()))
+        long = {name for name in names_of(command.options) if name.startswith("--")}
+        lines += differences(command.name, long, added.get(command.name, set()))
         if command.operands != wanted.get(command.name, command.operands):
             lines.append(f"tools/package/command_table.py: `{command.name}` has the operands {' '.join(wanted[command.name])}")
     return lines

@@ -70,25 +70,33 @@ class Program:
 HELP = Option(("-h", "--help"), "Print help")
 VERSION = Option(("-V", "--version"), "Print version")
 
+OUTPUT = Option(("-o", "--output"), "The file that gets the output", FILE)
+EXPLAIN = Option(("--explain",), "After a fault or a refusal, say why")
+
 RIM = Program(
     "rim",
     (
         Command("measure", "Print the measurement of each launch of a manifest", (MANIFEST,), (
             Option(("--workers",), "How many threads hash pages, 1 to 64", TEXT),
             Option(("--json",), "The report as one JSON object"),
+            OUTPUT, EXPLAIN,
         )),
-        Command("list", "Print the commands that build the realm of a launch", (MANIFEST, LAUNCH)),
-        Command("trace", "Print the measurement of a launch step by step", (MANIFEST, LAUNCH)),
-        Command("map", "Print where the items of a launch are", (MANIFEST, LAUNCH), (Option(("--json",), "The map as one JSON object"),)),
-        Command("audit", "Print each measurement as a monitor holds it", (MANIFEST,)),
+        Command("list", "Print the commands that build the realm of a launch", (MANIFEST, LAUNCH), (OUTPUT, EXPLAIN)),
+        Command("trace", "Print the measurement of a launch step by step", (MANIFEST, LAUNCH), (OUTPUT, EXPLAIN)),
+        Command("map", "Print where the items of a launch are", (MANIFEST, LAUNCH), (
+            Option(("--json",), "The map as one JSON object"),
+            OUTPUT, EXPLAIN,
+        )),
+        Command("audit", "Print each measurement as a monitor holds it", (MANIFEST,), (OUTPUT, EXPLAIN)),
         Command("check", "Print what is wrong with a manifest", (MANIFEST,), (
             Option(("--quiet",), "Print no warnings"),
             Option(("--json",), "What is found as one JSON object"),
+            OUTPUT,
         )),
-        Command("dtb", "Write the devicetree of a launch", (MANIFEST, LAUNCH)),
-        Command("replay", "Say whether a listing is what it says", (FILE,)),
-        Command("image", "Print the header of an arm64 kernel Image", (FILE,)),
-        Command("fdt", "Print a flattened devicetree", (FILE,)),
+        Command("dtb", "Write the devicetree of a launch", (MANIFEST, LAUNCH), (OUTPUT, EXPLAIN)),
+        Command("replay", "Say whether a listing is what it says", (FILE,), (EXPLAIN,)),
+        Command("image", "Print the header of an arm64 kernel Image", (FILE,), (EXPLAIN,)),
+        Command("fdt", "Print a flattened devicetree", (FILE,), (EXPLAIN,)),
     ),
     (HELP,),
     (VERSION,),

@@ -1,12 +1,13 @@
 -- The subcommand that a parse entered, and what its matches hold.
 use Rattle.std.proofs.Common.{◌≡◌, ℕ, Bool, true, false, cond, not, List, [], ◌∷◌, ◌++◌, map, Option, Some, None, option_map, Box, refl, ap, inl, inr, ◌||◌, ◌&&◌, is_some, subst}
-use Rattle.std.specs.Prelude.{IfSome, find, fold, unwrap_or}
+use Rattle.std.specs.Prelude.{IfSome, codes, find, fold, unwrap_or}
 use Rattle.std.specs.List.{AllByRecursion, list_all, list_any}
 use Rattle.std.specs.Option.{option_map_or}
+use Rattle.std.specs.Str.{bytes_eq}
 use Rattle.std.specs.Box.{box_value}
 use Rattle.std.proofs.lemmas.Option.{same_Some}
 use Rattle.clap.specs.Words.{Accepts, Row, Rule, Shape, Text, built, fault_of, first_of, subcommand_of, subcommand_rows}
-use Rattle.clap.specs.Simple.{argument_words, built_leaf, entered, filled, filled_from, help_rule, index_after, inherited, label_of, marked_built, names_of, new_shape, parser_for, rows_at, with_action, with_leaf_noted}
+use Rattle.clap.specs.Simple.{argument_words, built_leaf, entered, filled, filled_from, help_rule, help_shape, index_after, inherited, label_of, marked_built, names_of, new_shape, parser_for, rows_at, with_action, with_leaf_noted}
 use Rattle.clap.specs.Kinds.{check_kinds, or_else}
 use Rattle.clap.specs.Facts.{parser_of_value}
 use Rattle.clap.specs.Faults.{check_fault, default_fault, defaults_fault, entered_fault, level_fault, settle_fault, walk_fault}
@@ -20,6 +21,7 @@ use Rattle.clap.proofs.ValueTestLemmas.{accepts-Accepts}
 use Rattle.clap.proofs.WalkLemmas.{both}
 use Rattle.rim_words.specs.Command.{commands, rim}
 use Rattle.rim_words.specs.inside.Table.{IsEntered, IsEnteredIn, IsGiven, IsTaken}
+use Rattle.rim_words.proofs.HelpIsNotEntered.{IsNoHelp, no_help}
 use Rattle.rim_words.proofs.MatchesPassParsers.{none_of, settled_fits, walk_fits}
 use Rattle.rim_words.proofs.SoundArguments.{are_distinct, are_sound, each_own, each_sound, is_sound}
 use Rattle.rim_words.proofs.ValuesOfArguments.{IsSound, fits, first_given, first_passes, keeps, keeps_default}
@@ -142,18 +144,26 @@ leaf_taken c are words passes = as_listed 1 c.1 (help_rule ∷ []) rows (each_ta
     missing : list_any (λ a. a.required && not (is_given a.id rows)) rules ≡ false
     missing = none_missing (list_any (λ a. a.required && not (is_given a.id rows)) rules) (checks_pass (shape_in c) words sound passes)
 
--- the matches of each subcommand hold what they are to
+-- `help` as it is built below `rim`
+abbrev help_leaf : List Shape
+help_leaf = built_leaf help_shape ∷ []
+
+abbrev subs_of : List (Text × List Rule) → List Shape
+subs_of cs = map shape_in cs ++ help_leaf
+
+-- the matches of each subcommand hold what they are to, where it is not `help`
 found_taken : (word : Text) (words : List Text) (cs : List (Text × List Rule)) (p : Text × List Row) → list_all (λ c. are_sound (shape_in c).rules) cs ≡ true
-    → option_map (λ s. rows_at s words) (find (λ s. answers_to word (label_of s)) (map shape_in cs)) ≡ Some p
-    → option_map_or (λ s. level_fault s [] nothing_held words false []) (find (λ s. answers_to word (label_of s)) (map shape_in cs)) [] ≡ []
+    → bytes_eq (codes "help") word ≡ false
+    → option_map (λ s. rows_at s words) (find (λ s. answers_to word (label_of s)) (subs_of cs)) ≡ Some p
+    → option_map_or (λ s. level_fault s [] nothing_held words false []) (find (λ s. answers_to word (label_of s)) (subs_of cs)) [] ≡ []
     → IsEnteredIn cs p.0 p.1
-found_taken word words [] p are is passes = cc
-found_taken word words (c ∷ cs) p are is passes =
+found_taken word words [] p are other is passes = let none = rw other at is in cc
+found_taken word words (c ∷ cs) p are other is passes =
     let parts = both (are_sound (shape_in c).rules) (list_all (λ c. are_sound (shape_in c).rules) cs) are in
-    go (answers_to word (label_of (shape_in c))) parts.0 (found_taken word words cs p parts.1) is passes
+    go (answers_to word (label_of (shape_in c))) parts.0 (found_taken word words cs p parts.1 other) is passes
   where
     rest : Option Shape
-    rest = find (λ t. answers_to word (label_of t)) (map shape_in cs)
+    rest = find (λ t. answers_to word (label_of t)) (subs_of cs)
 
     go : (b : Bool) → are_sound (shape_in c).rules ≡ true
         → (option_map (λ t. rows_at t words) rest ≡ Some p → option_map_or (λ t. level_fault t [] nothing_held words false []) rest [] ≡ [] → IsEnteredIn cs p.0 p.1)
@@ -164,15 +174,19 @@ found_taken word words (c ∷ cs) p are is passes =
         inl (subst (λ (r : Text × List Row). (r.0 ≡ c.0) × AllByRecursion (IsTaken r.1) c.1) (same_Some _ _ is) (refl, leaf_taken c are words passes))
     go false are later is passes = inr (later is passes)
 
-stopped_taken : (stop : Option (Text × List Text)) (p : Text × List Row) → entered (built rim) stop ≡ Some p → entered_fault (built rim) stop ≡ [] → IsEntered p.0 p.1
-stopped_taken None p is passes = cc
-stopped_taken (Some q) p is passes = found_taken q.0 q.1 commands p refl is passes
+stopped_taken : (stop : Option (Text × List Text)) (p : Text × List Row) → IsNoHelp stop → entered (built rim) stop ≡ Some p
+    → entered_fault (built rim) stop ≡ [] → IsEntered p.0 p.1
+stopped_taken None p other is passes = cc
+stopped_taken (Some q) p other is passes = found_taken q.0 q.1 commands p refl other is passes
 
 -- where `clap` takes the words, the matches of the subcommand hold what they are to
 pub entered_good : (words : List Text) (p : Text × List Row) → fault_of rim words ≡ [] → subcommand_of rim words ≡ Some p → IsEntered p.0 p.1
 entered_good words p passes is =
-    let stop = stop_after (built rim).top.rules (names_of (built rim)) (argument_words rim words) in
-    stopped_taken stop p is (none_of (entered_fault (built rim) stop) _ (none_of (walk_fault (built rim).top (names_of (built rim)) (walk_from nothing_held) (argument_words rim words)) _ passes).1).0
+    let top = (built rim).top in
+    let names = names_of (built rim) in
+    let stop = stop_after top.rules names (argument_words rim words) in
+    let parts = none_of (walk_fault top names (walk_from nothing_held) (argument_words rim words)) _ passes in
+    stopped_taken stop p (no_help top names (argument_words rim words) refl parts.0) is (none_of (entered_fault (built rim) stop) _ parts.1).0
 
 module _ {Z : Type 0} where
   -- the name and the rows of the subcommand that a parse met, put together

@@ -7,6 +7,8 @@ pub mod MatchesPassParsers
 pub mod ValuesOfArguments
 -- which a test of the arguments says;
 pub mod SoundArguments
+-- and it enters no `help`
+pub mod HelpIsNotEntered
 -- Words that are refused: the kind of error says whether they are a mistake or ask for help
 pub mod KindsOfRefusal
 -- what is asked for, by its subcommand

@@ -1,6 +1,6 @@
 -- The command line of `rim`, this project's choice, in the words of `clap`'s definition for simple
 -- commands; and what the words of a command line ask for.
-use Rattle.std.specs.Prelude.{◌≡◌, ◌≢◌, ◌≤◌, ⊤, ℕ, Bool, true, false, not, pos, List, [], ◌∷◌, Option, Some, None, codes, fold, option_map, if◌then◌else◌}
+use Rattle.std.specs.Prelude.{◌≡◌, ◌≢◌, ◌≤◌, ⊤, ℕ, Bool, true, false, not, pos, List, [], ◌∷◌, Option, Some, None, codes, fold, is_some, option_map, if◌then◌else◌}
 use Rattle.std.specs.List.{list_all}
 use Rattle.std.specs.Str.{bytes_eq}
 use Rattle.std.specs.Str.Parse.{digits_value, without_leading_plus}
@@ -50,27 +50,35 @@ launch = operand_rule (codes "launch")
 abbrev pub json : Rule
 json = flag_rule (codes "json")
 
+-- the path of the file that gets the output, `-o FILE` or `--output FILE`
+abbrev pub output : Rule
+output = record (new_rule (codes "output")) { short = Some 111; long = Some (codes "output"); value_names = 1 }
+
+-- that a fault is explained
+abbrev pub explain : Rule
+explain = flag_rule (codes "explain")
+
 -- the subcommands in their order, each with its arguments in theirs: `measure MANIFEST [--workers N] [--json]` and so on
 abbrev pub commands : List (Text × List Rule)
-commands = (codes "measure", path ∷ workers_rule ∷ json ∷ [])
-    ∷ (codes "list", path ∷ launch ∷ [])
-    ∷ (codes "trace", path ∷ launch ∷ [])
-    ∷ (codes "map", path ∷ launch ∷ json ∷ [])
-    ∷ (codes "audit", path ∷ [])
-    ∷ (codes "check", path ∷ flag_rule (codes "quiet") ∷ json ∷ [])
-    ∷ (codes "dtb", path ∷ launch ∷ [])
-    ∷ (codes "replay", path ∷ [])
-    ∷ (codes "image", path ∷ [])
-    ∷ (codes "fdt", path ∷ [])
+commands = (codes "measure", path ∷ workers_rule ∷ json ∷ output ∷ explain ∷ [])
+    ∷ (codes "list", path ∷ launch ∷ output ∷ explain ∷ [])
+    ∷ (codes "trace", path ∷ launch ∷ output ∷ explain ∷ [])
+    ∷ (codes "map", path ∷ launch ∷ json ∷ output ∷ explain ∷ [])
+    ∷ (codes "audit", path ∷ output ∷ explain ∷ [])
+    ∷ (codes "check", path ∷ flag_rule (codes "quiet") ∷ json ∷ output ∷ [])
+    ∷ (codes "dtb", path ∷ launch ∷ output ∷ explain ∷ [])
+    ∷ (codes "replay", path ∷ explain ∷ [])
+    ∷ (codes "image", path ∷ explain ∷ [])
+    ∷ (codes "fdt", path ∷ explain ∷ [])
     ∷ []
 
 -- a command with one subcommand more, of this name and these arguments
 abbrev pub with_command : App → Text × List Rule → App
 with_command app c = with_subcommand app (record (new_shape c.0) { rules = c.1 })
 
--- the program: one of its subcommands has to be given, and it has a version
+-- the program: one of its subcommands has to be given, and it has a version. `clap` adds `help`, which shows a text
 abbrev pub rim : App
-rim = on_top (λ s. record s { has_version = true; subcommand_required = true; disable_help_subcommand = true })
+rim = on_top (λ s. record s { has_version = true; subcommand_required = true })
     (fold with_command (new_app (codes "rim")) commands)
 
 -- a number of workers that a run may have: from 1 to 64
@@ -130,14 +138,15 @@ ReadsAsk rows (ask.File asked) = ⊤
 abbrev pub ReadsRow : Text → List Row → Request → Type 0
 ReadsRow name rows request =
     (name ≡ verb_of request.ask) × (first_of (codes "path") rows ≡ Some request.path.now) × ReadsAsk rows request.ask
+    × (first_of (codes "output") rows ≡ option_map (λ path. path.now) request.output) × (request.explain ≡ is_set (first_of (codes "explain") rows))
 
 abbrev pub ReadsRequest : Option (Text × List Row) → Request → Type 0
 ReadsRequest None request = ⊥
 ReadsRequest (Some p) request = ReadsRow p.0 p.1 request
 
--- the words ask for bytes that are no text, as `dtb` alone does
+-- the words ask for bytes that are no text, as `dtb` alone does, and name no file that gets them
 abbrev pub AsksForBytes : List Text → Type 0
-AsksForBytes words = option_map (λ p. p.0) (subcommand_of rim words) ≡ Some (codes "dtb")
+AsksForBytes words = option_map {U = Text × Bool} (λ p. (p.0, is_some (first_of (codes "output") p.1))) (subcommand_of rim words) ≡ Some (codes "dtb", false)
 
 -- help and the version are asked for; each other kind of error is a mistake in the words
 abbrev pub is_asked : ErrorKind → Bool

@@ -1,8 +1,8 @@
 -- Examples of command lines, read by the definition of `clap`. This project's choice.
-use Rattle.std.specs.Prelude.{◌≡◌, ℕ, true, false, List, [], ◌∷◌, Option, Some, None, codes, filter, map, option_map}
+use Rattle.std.specs.Prelude.{◌≡◌, ℕ, Bool, true, false, List, [], ◌∷◌, Option, Some, None, codes, filter, map, option_map}
 use Rattle.std.specs.List.{list_all, list_any}
 use Rattle.clap.specs.Words.{Rule, Text, first_of, subcommand_of, takes}
-use Rattle.rim_words.specs.Command.{AsksForHelp, CountsWorkers, IsMistaken, commands, format_of, rim}
+use Rattle.rim_words.specs.Command.{AsksForHelp, CountsWorkers, IsMistaken, commands, format_of, is_set, rim}
 use Rattle.rim_words.specs.declared.words.Format.{Format}
 use Rattle.rim_words.specs.declared.words.Format.TheVariants as format
 
@@ -27,6 +27,10 @@ a_listing = codes "rim" ∷ codes "list" ∷ codes "manifest.toml" ∷ codes "sm
 abbrev pub a_placed_devicetree : List Text
 a_placed_devicetree = codes "rim" ∷ codes "dtb" ∷ codes "manifest.toml" ∷ codes "small" ∷ []
 
+-- the output goes to a file, and a fault is explained
+abbrev pub to_a_file : List Text
+to_a_file = codes "rim" ∷ codes "audit" ∷ codes "--explain" ∷ codes "-o" ∷ codes "report.txt" ∷ codes "manifest.toml" ∷ []
+
 -- a listing of no launch
 abbrev pub too_few : List Text
 too_few = codes "rim" ∷ codes "list" ∷ codes "manifest.toml" ∷ []
@@ -44,7 +48,7 @@ smallest_run c = codes "rim" ∷ c.0 ∷ map (λ a. a.id) (filter (λ a. a.requi
 
 -- command lines of the program, and words that are none
 abbrev pub taken : List (List Text)
-taken = plain ∷ with_seven ∷ with_json ∷ a_listing ∷ a_trace ∷ a_map ∷ a_placed_devicetree ∷ map smallest_run commands
+taken = plain ∷ with_seven ∷ with_json ∷ a_listing ∷ a_trace ∷ a_map ∷ a_placed_devicetree ∷ to_a_file ∷ map smallest_run commands
 
 abbrev pub not_taken : List (List Text)
 not_taken = too_many ∷ json_with_value ∷ too_few ∷ (codes "rim" ∷ codes "help" ∷ []) ∷ (codes "rim" ∷ []) ∷ []
@@ -64,6 +68,10 @@ launch_in words = option_map (λ p. (first_of (codes "path") p.1, first_of (code
 abbrev pub format_in : List Text → Option Format
 format_in words = option_map (λ p. format_of (first_of (codes "json") p.1)) (subcommand_of rim words)
 
+-- the text of the output that the words hold, and whether they ask for an explanation
+abbrev pub output_in : List Text → Option (Option Text × Bool)
+output_in words = option_map (λ p. (first_of (codes "output") p.1, is_set (first_of (codes "explain") p.1))) (subcommand_of rim words)
+
 abbrev pub ReadsExamples : Type 0
 ReadsExamples = (read_in plain ≡ Some (Some (codes "manifest.toml"), None))
     × (read_in with_seven ≡ Some (Some (codes "manifest.toml"), Some (codes "7")))
@@ -71,6 +79,7 @@ ReadsExamples = (read_in plain ≡ Some (Some (codes "manifest.toml"), None))
     × (launch_in a_trace ≡ Some (Some (codes "manifest.toml"), Some (codes "small")))
     × (launch_in a_map ≡ Some (Some (codes "manifest.toml"), Some (codes "small"))) × (format_in a_map ≡ Some format.Json)
     × (launch_in a_placed_devicetree ≡ Some (Some (codes "manifest.toml"), Some (codes "small")))
+    × (output_in to_a_file ≡ Some (Some (codes "report.txt"), true)) × (output_in plain ≡ Some (None, false))
     × (format_in plain ≡ Some format.Text) × (format_in with_json ≡ Some format.Json)
     × ((n : ℕ) → CountsWorkers None n → n ≡ 4) × ((n : ℕ) → CountsWorkers (Some (codes "7")) n → n ≡ 7)
 

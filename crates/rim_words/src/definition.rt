@@ -28,6 +28,8 @@ enum Argument {
     Flag(&'static str, &'static str),
     /// The option `--workers`.
     Workers,
+    /// The option `--output`.
+    Output,
 }
 
 /// The path of a manifest.
@@ -35,6 +37,12 @@ const MANIFEST: Argument = Argument::Operand("path", "MANIFEST", "The manifest, 
 
 /// The name of a launch of that manifest.
 const LAUNCH: Argument = Argument::Operand("launch", "LAUNCH", "The launch, by its name");
+
+/// That standard error also says why, as it does where it is a terminal.
+const EXPLAIN: Argument = Argument::Flag(
+    "explain",
+    "After a fault or a refusal, the line that `rim check` has of it, on standard error",
+);
 
 /// The subcommands, in the order of the help text.
 const COMMANDS: [Subcommand; 10] = [
@@ -46,19 +54,21 @@ const COMMANDS: [Subcommand; 10] = [
             MANIFEST,
             Argument::Workers,
             Argument::Flag("json", "The report as one JSON object, and not as lines"),
+            Argument::Output,
+            EXPLAIN,
         ],
     },
     Subcommand {
         name: "list",
         about: "Prints the monitor's commands that build the realm of a launch",
         after_help: None,
-        arguments: &[MANIFEST, LAUNCH],
+        arguments: &[MANIFEST, LAUNCH, Argument::Output, EXPLAIN],
     },
     Subcommand {
         name: "trace",
         about: "Prints the measurement of a launch step by step",
         after_help: None,
-        arguments: &[MANIFEST, LAUNCH],
+        arguments: &[MANIFEST, LAUNCH, Argument::Output, EXPLAIN],
     },
     Subcommand {
         name: "map",
@@ -68,6 +78,8 @@ const COMMANDS: [Subcommand; 10] = [
             MANIFEST,
             LAUNCH,
             Argument::Flag("json", "The map as one JSON object, and not as lines"),
+            Argument::Output,
+            EXPLAIN,
         ],
     },
     Subcommand {
@@ -75,7 +87,7 @@ const COMMANDS: [Subcommand; 10] = [
         about: "Prints the measurement of each launch, \
             as a monitor that takes its commands holds it",
         after_help: None,
-        arguments: &[MANIFEST],
+        arguments: &[MANIFEST, Argument::Output, EXPLAIN],
     },
     Subcommand {
         name: "check",
@@ -86,31 +98,41 @@ const COMMANDS: [Subcommand; 10] = [
             MANIFEST,
             Argument::Flag("quiet", "No warnings: only what is wrong is printed"),
             Argument::Flag("json", "What is found as one JSON object, and not as lines"),
+            Argument::Output,
         ],
     },
     Subcommand {
         name: "dtb",
         about: "Writes the devicetree of a launch, as it is placed and measured",
         after_help: None,
-        arguments: &[MANIFEST, LAUNCH],
+        arguments: &[MANIFEST, LAUNCH, Argument::Output, EXPLAIN],
     },
     Subcommand {
         name: "replay",
         about: "Says whether a listing is what it says, by giving its commands to a monitor",
         after_help: None,
-        arguments: &[Argument::Operand("path", "FILE", "The listing, as `rim list` prints it")],
+        arguments: &[
+            Argument::Operand("path", "FILE", "The listing, as `rim list` prints it"),
+            EXPLAIN,
+        ],
     },
     Subcommand {
         name: "image",
         about: "Prints the header of an arm64 kernel Image",
         after_help: None,
-        arguments: &[Argument::Operand("path", "FILE", "The Image, as a kernel's build writes it")],
+        arguments: &[
+            Argument::Operand("path", "FILE", "The Image, as a kernel's build writes it"),
+            EXPLAIN,
+        ],
     },
     Subcommand {
         name: "fdt",
         about: "Prints a flattened devicetree, node by node",
         after_help: None,
-        arguments: &[Argument::Operand("path", "FILE", "The devicetree, as dtc or QEMU writes it")],
+        arguments: &[
+            Argument::Operand("path", "FILE", "The devicetree, as dtc or QEMU writes it"),
+            EXPLAIN,
+        ],
     },
 ];
 
@@ -164,8 +186,11 @@ the measurement of the last line. Else it prints `no line N` where line N is no 
 a listing in its place, `no refused N KIND` where the monitor refuses the command of line
 N, or `no wrong-rim` where the measurement is another one.
 
-A fault is one line on standard error, `rim: ` and its name. What `rim check` finds is
-on standard output.
+A fault is one line on standard error, `rim: ` and its name; with `--explain`, or where
+that is a terminal, a line follows that says why. What `rim check` finds is on standard
+output.
+
+With `-o FILE` the output is in FILE, which has all of it or is as it was.
 
 Exit status:
   0  done
@@ -174,7 +199,12 @@ Exit status:
   2  the command line is wrong
   3  the manifest, a file or the output is at fault, or no launch has the name, or
      (`rim dtb`) the launch is refused or has no devicetree
-  4  out of memory";
+  4  out of memory
+
+Beside it: `rim-manifest` writes manifests from what a hypervisor is given or does,
+`rim-match` searches for the launch that has a value, `rim-compare` says what changed
+between reports, `rim-verify` looks a token's value up, and `rim-endorse` writes reference
+values for verifiers. Each has `--help` and a man page.";
 
 /// The program's command line.
 pub fn rim_command<'a>(alloc: Global) -> Result<Command<'a>, AllocError>
@@ -188,7 +218,7 @@ pub fn rim_command<'a>(alloc: Global) -> Result<Command<'a>, AllocError>
         .about("Computes Realm Initial Measurements of Arm CCA realms")
         .after_help(GUIDE);
     let rim = with_commands(alloc, rim, &COMMANDS)?;
-    Ok(rim.subcommand_required(true).disable_help_subcommand(true))
+    Ok(rim.subcommand_required(true))
 }
 
 /// A command with these subcommands more. None of them passes an argument on to all of its subcommands.
@@ -244,5 +274,10 @@ fn arg_of<'a>(alloc: Global, argument: &Argument) -> Arg<'a>
             .value_name("N")
             .value_parser(clap::value_parser!(u8).range(1..=WORKER_LIMIT as i64))
             .help("Threads that hash pages and chain launches, 1 to 64; 4 where not given"),
+        Argument::Output => Arg::new(alloc, "output")
+            .short('o')
+            .long("output")
+            .value_name("FILE")
+            .help("The file that gets all of the output; standard output where not given"),
     }
 }

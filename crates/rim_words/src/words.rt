@@ -19,6 +19,10 @@ use thiserror::Error;
 pub struct Request<'a> {
     pub path: &'a str,
     pub ask: Ask<'a>,
+    /// The path of the file that gets the output; standard output gets it where there is none.
+    pub output: Option<&'a str>,
+    /// Whether a fault is explained on standard error, whatever that is.
+    pub explain: bool,
 }
 
 /// What is asked of a file.
@@ -124,6 +128,8 @@ fn request_of<'a>(name: &str, given: &ArgMatches<'a>) -> Request<'a>
     Request {
         path: operand(given, "path"),
         ask: ask_of(name, given),
+        output: value(given, "output"),
+        explain: flag(given, "explain"),
     }
 }
 

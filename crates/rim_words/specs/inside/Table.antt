@@ -3,15 +3,16 @@ use Rattle.std.specs.Prelude.{◌≡◌, ◌⊎◌, ⊤, Bool, true, false, List
 use Rattle.std.specs.List.{AllByRecursion}
 use Rattle.clap.specs.Words.{Accepts, Row, Rule, Text, first_of}
 use Rattle.rim_words.specs.declared.definition.Argument.{Argument}
-use Rattle.rim_words.specs.declared.definition.Argument.TheVariants.{Operand, Flag, Workers}
+use Rattle.rim_words.specs.declared.definition.Argument.TheVariants.{Operand, Flag, Workers, Output}
 use Rattle.rim_words.specs.declared.definition.Subcommand.{Subcommand}
-use Rattle.rim_words.specs.Command.{commands, flag_rule, operand_rule, workers_rule}
+use Rattle.rim_words.specs.Command.{commands, flag_rule, operand_rule, output, workers_rule}
 
 -- an argument, by its rule
 abbrev pub rule_in : Argument → Rule
 rule_in (Operand id name help) = operand_rule id.now
 rule_in (Flag name help) = flag_rule name.now
 rule_in Workers = workers_rule
+rule_in Output = output
 
 -- a subcommand, by its name and the rules of its arguments
 abbrev pub command_in : Subcommand → Text × List Rule

@@ -8,7 +8,7 @@ returns-clause-taken c = (refl, refl)
 
 pub returns-clause-read : goal.returns-clause-read
 unfolding clap_on_literals
-returns-clause-read c = (refl, refl, refl, refl, refl, refl, refl, refl, refl, (λ n e. e), (λ n e. e.0))
+returns-clause-read c = (refl, refl, refl, refl, refl, refl, refl, refl, refl, refl, refl, (λ n e. e), (λ n e. e.0))
 
 pub returns-clause-refused : goal.returns-clause-refused
 unfolding clap_on_literals
