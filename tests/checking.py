@@ -6,8 +6,8 @@
 - Lists of faults: at most 200 lines and how many more there are, none of what is past a limit, one line for one cause.
 - Large manifests: a check takes at most twice the time and the memory of `rim measure`, which looks for the lowest fault alone.
 - One devicetree of many launches: what it says is found once, and not at all where no warning is asked for.
-- Terminals: JSON has no character that nobody sees, and means the same. After a fault, the file that it is about, the nearest name of a launch, or the command that says where; after those that a check
-  prints, the line with the first. Nothing where standard error is no terminal. The line of progress, of measurements and of audits, leaves
+- Terminals: JSON has no character that nobody sees, and means the same. After a fault, the line that a check has of it, the file that it is
+  about or the nearest name of a launch; after those that a check prints, the line with the first. Nothing where standard error is no terminal. The line of progress, of measurements and of audits, leaves
   the cursor on a line of its own, and is removed.
 
 The files are made here. The last line is 'N passed, M failed'.
@@ -166,22 +166,23 @@ ADVICE = [
     ("a manifest that is not there", ["measure", "gone.toml"], b"",
      "rim: file-unreadable\n  gone.toml: there is no such file in the folder where rim runs\n"),
     ("a folder in its place", ["audit", "/"], b"", "rim: file-unreadable\n  /: it is a directory\n"),
-    ("a fault of a manifest", ["measure", "m.toml"], b"rim_manifest = 3\n", "rim: version\n  `rim check m.toml` says where\n"),
-    ("no TOML document", ["list", "m.toml", "a"], b"x", "rim: syntax\n  `rim check m.toml` says where\n"),
+    ("a fault of a manifest", ["measure", "m.toml"], b"rim_manifest = 3\n", "rim: version\n  m.toml:1:1: manifest: rim_manifest: version: 3, expected 1 or 2\n"),
+    ("no TOML document", ["list", "m.toml", "a"], b"x", "rim: syntax\n  m.toml:1:2: syntax: key with no value, expected `=`\n"),
     ("a file that is not there", ["trace", "m.toml", "a"], manifest(FILE % "gone", SMALL % "a"),
-     "rim: file-unreadable\n  `rim check m.toml` says where\n"),
+     "rim: file-unreadable\n  gone: file-unreadable: there is no such file in the folder where rim runs\n"),
     ("no launch of the name", ["list", "m.toml", "smal"], manifest(SMALL % "small"),
      'rim: no-such-launch\n  m.toml has no launch "smal" (nearest: small)\n'),
     ("no launch, and no name near it", ["map", "m.toml", "x"], manifest(SMALL % "small"),
      'rim: no-such-launch\n  m.toml has no launch "x"\n'),
     ("a launch that is refused has no devicetree", ["dtb", "m.toml", "a"], manifest(SMALL % "a" + "ram = [[1, 2]]\n"),
-     "rim: plan-unaligned\n  `rim check m.toml` says where\n"),
-    ("a launch without a devicetree", ["dtb", "m.toml", "a"], manifest(SMALL % "a"), "rim: no-devicetree\n"),
+     'rim: plan-unaligned\n  launch "a": plan-unaligned: step "ram 0": 0x1 to 0x2 is not of whole pages; a region is from a multiple of 0x1000 to another\n'),
+    ("a launch without a devicetree", ["dtb", "m.toml", "a"], manifest(SMALL % "a"),
+     'rim: no-devicetree\n  launch "a" has no item of the kind "dtb"\n'),
     ("a listing that is not there", ["replay", "gone"], b"",
      "rim: file-unreadable\n  gone: there is no such file in the folder where rim runs\n"),
     ("a path with an escape", ["image", "a\x1b[1m"], b"",
      "rim: file-unreadable\n  a\\x1b[1m: there is no such file in the folder where rim runs\n"),
-    ("a devicetree that is none", ["fdt", "m.toml"], b"x", "rim: dtb-short\n"),
+    ("a devicetree that is none", ["fdt", "m.toml"], b"x", "rim: dtb-short\n  m.toml: it has fewer than the 40 bytes of a header\n"),
     ("a check of a manifest with a fault", ["check", "m.toml"], manifest(SMALL % "a" + "  s3sz = 3 # \x1b[1m\n").replace(b"\x1b", b"\t"),
      "  6 |   s3sz = 3 # \\x09[1m\n        ^\n"),
     ("a check of a long line", ["check", "m.toml"], b"x = '" + b"a" * 100 + b"'\nrim_manifest = 1\ny = ['" + b"b" * 100 + b"', a]\n",

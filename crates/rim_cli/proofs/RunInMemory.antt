@@ -12,13 +12,14 @@ use Rattle.rim_manifest.specs.Manifest.{manifest_of}
 use Rattle.rim_manifest.specs.declared.fault.ManifestFault.{ManifestFault}
 use Rattle.rim_accepted.specs.Lines.{has_refused}
 use Rattle.rim_report.specs.Report.{measured_of}
-use Rattle.rim_words.specs.Command.{ReadsAsk, rim}
-use Rattle.rim_cli.specs.Done.{AsksFor, IsAnswer, IsMade, IsReport}
+use Rattle.rim_words.specs.Command.{ReadsAsk, ReadsRequest, rim}
+use Rattle.rim_cli.specs.Done.{AsksFor, IsAnswer, IsMade, IsReport, output_of}
 use Rattle.rim_words.specs.Examples.{plain}
 use Rattle.rim_cli.specs.Files.{AreRead, IfFile, Known}
 use Rattle.rim_words.specs.declared.words.Format.{Format}
 use Rattle.rim_words.specs.declared.words.Format.TheVariants as format
 use Rattle.rim_words.specs.declared.words.Ask.{Ask}
+use Rattle.rim_words.specs.declared.words.Request.{Request}
 use Rattle.rim_words.proofs.RequestsOfSubcommands.{measure_asks}
 
 -- where the manifest is
@@ -48,6 +49,11 @@ made_report manifest text status made =
     let own : IsOkAnd (manifest_of manifest) (λ r. IsReport format.Text made.request.path.now manifest (in_memory manifest) r text status) =
     subst (λ (f : Format). IsOkAnd (manifest_of manifest) (λ r. IsReport f made.request.path.now manifest (in_memory manifest) r text status)) options.1 report in
     subst (λ (p : List ℕ). IsOkAnd (manifest_of manifest) (λ r. IsReport format.Text p manifest (in_memory manifest) r text status)) (sym (same_Some _ _ made.asked.1)) own
+
+-- and it goes to standard output
+pub to_output : (request : Request) → ReadsRequest (subcommand_of rim plain) request → output_of request ≡ None
+unfolding clap_on_literals
+to_output request asked = sym asked.3
 
 -- the report of a release without files
 no_files : (held : List ℕ → Known) (files : List (List ℕ)) → AreRead held [] files → files ≡ []

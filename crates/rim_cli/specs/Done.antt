@@ -1,5 +1,5 @@
 -- What a run of the program has written when it is done, and why it is refused. This project's choice.
-use Rattle.std.specs.Prelude.{◌≡◌, ◌≢◌, ◌⊎◌, ℕ, Bool, List, [], ◌++◌, Option, Some, None, IsOkAnd, Result, Ok, Err, codes, is_err, length, is_some, true, option_and_then, position, slice_get, if◌then◌else◌}
+use Rattle.std.specs.Prelude.{◌≡◌, ◌≢◌, ◌⊎◌, ℕ, Bool, List, [], ◌++◌, Option, Some, None, IsOkAnd, Result, Ok, Err, codes, is_err, length, is_some, true, option_and_then, option_map, position, slice_get, if◌then◌else◌}
 use Rattle.std.specs.Io.KnownBytes.{Appends}
 use Rattle.clap.specs.Words.{Text, subcommand_of}
 use Rattle.rim_manifest.specs.Manifest.{Answer, manifest_of, name_in}
@@ -258,11 +258,21 @@ pub record AsksFor (words : List Text) (Holds : Request → Type 0) : Type 0 whe
 abbrev pub IsMade : Request → (List ℕ → Known) → List ℕ → ℕ → Type 0
 IsMade request held text status = IfFile (held request.path.now) (λ bytes. IsAnswer held request.ask request.path.now bytes text status)
 
--- it is done: its text was added to what the output held, and the status is its own
-pub record IsDone (request : Request) (held : List ℕ → Known) (before after : Option (List ℕ)) (status : ℕ) : Type 0 where
+-- the path of the file that gets the text, where a request names one
+abbrev pub output_of : Request → Option (List ℕ)
+output_of request = option_map (λ path. path.now) request.output
+
+-- a text was written, and this is known of the files since: it was added to what standard output held; or that is as it was, and the file that
+-- was named has just the text
+abbrev pub IsWritten : Option (List ℕ) → (List ℕ → Known) → Option (List ℕ) → Option (List ℕ) → List ℕ → Type 0
+IsWritten None left before after text = Appends before after text
+IsWritten (Some path) left before after text = (after ≡ before) × IfFile (left path) (λ bytes. bytes ≡ text)
+
+-- it is done: its text was written, and the status is its own
+pub record IsDone (request : Request) (held left : List ℕ → Known) (before after : Option (List ℕ)) (status : ℕ) : Type 0 where
   pub text : List ℕ
   pub made : IsMade request held text status
-  pub written : Appends before after text
+  pub written : IsWritten (output_of request) left before after text
 
 -- it is refused with a fault that holds, and the status is that fault's
 pub record IsRefused (request : Request) (held : List ℕ → Known) (answer : ℕ) : Type 0 where
@@ -277,6 +287,6 @@ pub record IsUnwritten (request : Request) (held : List ℕ → Known) : Type 0 
   pub made : IsMade request held text status
 
 -- it ends with 3: it is refused, and the output is as it was, or could not be written, or is done
-abbrev pub EndsWithFault : Request → (List ℕ → Known) → Type 0 → Option (List ℕ) → Option (List ℕ) → ℕ → Type 0
-EndsWithFault request held Same before after status =
-    (IsRefused request held status × Same) ⊎ (IsUnwritten request held ⊎ IsDone request held before after status)
+abbrev pub EndsWithFault : Request → (held left : List ℕ → Known) → Type 0 → Option (List ℕ) → Option (List ℕ) → ℕ → Type 0
+EndsWithFault request held left Same before after status =
+    (IsRefused request held status × Same) ⊎ (IsUnwritten request held ⊎ IsDone request held left before after status)

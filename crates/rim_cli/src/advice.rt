@@ -1,113 +1,178 @@
-//! What is said after a fault to a person at a terminal: which file it is about, or where the fault is, or how to see that. That it is
-//! true is tested alone.
-use crate::checking::{check, failure_text};
+//! What is said after a fault or a refusal to a person at a terminal, or to one who asks for it: why, as `rim check` says it, or which file it
+//! is about. That it is true is tested alone.
+use crate::checking::{check_path, failure_text};
+use crate::fault::Fault;
 use crate::file::{Opener, Unread, read_or_why};
+use crate::found::read_launch;
+use crate::program::Terminals;
+use file_front::{devicetree_front, image_front};
 use refusal::NoMemory;
-use rim_check::{MarkedLine, Nearest};
-use rim_release::{Release, read_manifest};
-use rim_words::{Ask, Format, ManifestAsk, Request};
-use shown_text::{Line, Quoted};
+use rim_accepted::accept;
+use rim_check::{MarkedLine, Nearest, Remark, refusal_remark};
+use rim_release::{ShowFault, read_manifest};
+use rim_words::{Ask, LaunchAsk, ManifestAsk, Request};
+use shown_text::{Line, Quoted, Word};
 use std::alloc::Global;
 use std::fmt::Write as _;
-use std::io::Write;
+use std::io::{ErrorKind, Write};
 
-/// Writes what helps after a run for this request that ended with status 3: what its check has marked, or else what is found where the
-/// files are read again. Nothing is written where none of them is at fault.
+/// The status of a run whose text says that a launch is refused, and of one that ends with a fault other than want of memory.
+const REFUSED: u8 = 1;
+
+const FAULT: u8 = 3;
+
+/// Whether a fault is explained: where the words ask for it, or standard error is a terminal.
+pub fn is_explained(request: &Request, terminals: Terminals) -> bool {
+    request.explain || terminals.err
+}
+
+/// Writes why a request was refused with this fault, where that is explained. Nothing is written where its files say something else now, or
+/// memory runs out.
 pub fn advise<O: Opener, E: Write>(
     alloc: Global,
     request: &Request,
-    mark: Option<MarkedLine>,
+    terminals: Terminals,
+    fault: Fault,
     opener: &mut O,
     err: &mut E,
 ) {
-    let Ok(advice) = advice(alloc, opener, request, mark) else {
+    if !is_explained(request, terminals) || fault.status() != FAULT {
         return;
-    };
-    for line in [&advice.text, &advice.mark] {
-        if !line.as_slice().is_empty() {
-            let _ = err.write_all(b"  ");
-            let _ = err.write_all(line.as_slice());
-            let _ = err.write_all(b"\n");
+    }
+    if let Ok(line) = advice(alloc, opener, request, fault) {
+        write_line(line.as_slice(), err);
+    }
+}
+
+/// Writes why launches are refused, where the words ask for it and the text of this status has a word alone: a line for each.
+pub fn explain_refusals<O: Opener, E: Write>(
+    alloc: Global,
+    request: &Request,
+    status: u8,
+    opener: &mut O,
+    err: &mut E,
+) {
+    if !request.explain || status != REFUSED {
+        return;
+    }
+    if let Ok(remarks) = refusals(alloc, opener, request) {
+        for remark in &remarks {
+            if let Ok(line) = line_of(alloc, remark) {
+                write_line(line.as_slice(), err);
+            }
         }
     }
 }
 
-/// The line that helps, without what is in front of it, and one under it that has a mark; either may be empty, and then is not written.
+/// Writes the line of a manifest that has the first fault which a check has found, with a mark under it, where both are read on a terminal.
+pub fn show_mark<E: Write>(
+    request: &Request,
+    terminals: Terminals,
+    mark: Option<MarkedLine>,
+    err: &mut E,
+) {
+    if !terminals.err || request.output.is_some() {
+        return;
+    }
+    if let Some(MarkedLine { text, mark }) = mark {
+        write_line(text.as_slice(), err);
+        write_line(mark.as_slice(), err);
+    }
+}
+
+/// Writes why the file at a path could not be saved.
+pub fn show_unsaved<E: Write>(alloc: Global, path: &str, kind: ErrorKind, err: &mut E) {
+    if let Ok(line) = unsaved_line(alloc, path, kind) {
+        write_line(line.as_slice(), err);
+    }
+}
+
+/// That line, without what is in front of it.
+fn unsaved_line(alloc: Global, path: &str, kind: ErrorKind) -> Result<Vec<u8>, NoMemory> {
+    match kind {
+        ErrorKind::NotFound => named(alloc, path, "there is no such folder"),
+        ErrorKind::IsADirectory => named(alloc, path, "it is a directory"),
+        kind => {
+            let text = format!(in alloc; "{kind}")?;
+            named(alloc, path, text.as_str())
+        }
+    }
+}
+
+/// Writes a line under that of the fault, unless it is empty.
+fn write_line<E: Write>(line: &[u8], err: &mut E) {
+    if !line.is_empty() {
+        let _ = err.write_all(b"  ");
+        let _ = err.write_all(line);
+        let _ = err.write_all(b"\n");
+    }
+}
+
+/// The line of a remark, without a line feed.
+fn line_of(alloc: Global, remark: &Remark) -> Result<Vec<u8>, NoMemory> {
+    let mut line = Vec::new(alloc);
+    remark.push_to(&mut line)?;
+    Ok(line)
+}
+
+/// The line that says why a request was refused, without what is in front of it. It may be empty.
 fn advice<O: Opener>(
     alloc: Global,
     opener: &mut O,
     request: &Request,
-    mark: Option<MarkedLine>,
-) -> Result<MarkedLine, NoMemory> {
-    match mark {
-        Some(mark) => Ok(mark),
-        None => Ok(MarkedLine {
-            text: advice_line(alloc, opener, request)?,
-            mark: Line::new(alloc),
-        }),
-    }
-}
-
-/// The line that helps where nothing is marked.
-fn advice_line<O: Opener>(
-    alloc: Global,
-    opener: &mut O,
-    request: &Request,
-) -> Result<Line, NoMemory> {
+    fault: Fault,
+) -> Result<Vec<u8>, NoMemory> {
     let path = request.path;
     match request.ask {
-        Ask::Manifest(ManifestAsk::Check { .. }) | Ask::File(_) => {
-            match read_or_why(alloc, opener, path) {
-                Ok(_) => Ok(Line::new(alloc)),
-                Err(why) => file_advice(alloc, path, why),
-            }
-        }
-        Ask::Manifest(_) => manifest_advice(alloc, opener, path, None),
-        Ask::Launch { launch, .. } => manifest_advice(alloc, opener, path, Some(launch)),
+        Ask::Manifest(_) => fault_advice(alloc, opener, path, fault),
+        Ask::Launch { launch, .. } => match fault {
+            Fault::NoSuchLaunch => launch_advice(alloc, opener, path, launch),
+            Fault::NoDevicetree => no_devicetree(alloc, launch),
+            Fault::Refused(_) => match refusal(alloc, opener, path, launch)? {
+                Some(remark) => line_of(alloc, &remark),
+                None => Ok(Vec::new(alloc)),
+            },
+            _ => fault_advice(alloc, opener, path, fault),
+        },
+        Ask::File(_) => file_advice(alloc, opener, path, fault),
     }
 }
 
-/// What helps where a manifest, a file of it or the name of a launch is at fault.
-fn manifest_advice<O: Opener>(
+/// The line that a check has of a fault of a manifest, of a file that it names or of its pages.
+fn fault_advice<O: Opener>(
     alloc: Global,
     opener: &mut O,
     manifest: &str,
-    launch: Option<&str>,
-) -> Result<Line, NoMemory> {
-    let bytes = match read_or_why(alloc, opener, manifest) {
-        Ok(bytes) => bytes,
-        Err(why) => return file_advice(alloc, manifest, why),
+    fault: Fault,
+) -> Result<Vec<u8>, NoMemory> {
+    if let Err(why) = read_or_why(alloc, opener, manifest) {
+        return unread_advice(alloc, manifest, why);
+    }
+    let Ok(found) = check_path(alloc, opener, manifest, true, &mut None) else {
+        return Ok(Vec::new(alloc));
     };
-    if let (Ok(release), Some(launch)) = (read_manifest(alloc, bytes.as_slice()), launch) {
-        if release.launch_named(launch).is_none() {
-            return launch_advice(alloc, manifest, launch, &release);
+    let word = fault.kind();
+    for remark in &found.faults {
+        if matches!(remark.word, Word::Fault(own) if own == word) {
+            return line_of(alloc, remark);
         }
     }
-    match check(alloc, opener, manifest, true, Format::Text, &mut None) {
-        Ok(answer) if answer.status != 0 => check_line(alloc, manifest),
-        _ => Ok(Line::new(alloc)),
-    }
-}
-
-/// Why a file cannot be read.
-fn file_advice(alloc: Global, path: &str, why: Unread) -> Result<Line, NoMemory> {
-    let text = failure_text(alloc, path, why.fault, why.failure)?;
-    let mut line = Line::new(alloc);
-    if !text.is_empty() {
-        line.push_path(path)?;
-        line.push_text(": ")?;
-        line.push_text(text.as_str())?;
-    }
-    Ok(line)
+    Ok(Vec::new(alloc))
 }
 
 /// That a manifest has no launch of a name, and the nearest name.
-fn launch_advice(
+fn launch_advice<O: Opener>(
     alloc: Global,
+    opener: &mut O,
     manifest: &str,
     launch: &str,
-    release: &Release,
-) -> Result<Line, NoMemory> {
+) -> Result<Vec<u8>, NoMemory> {
+    let Ok(bytes) = read_or_why(alloc, opener, manifest) else {
+        return Ok(Vec::new(alloc));
+    };
+    let Ok(release) = read_manifest(alloc, bytes.as_slice()) else {
+        return Ok(Vec::new(alloc));
+    };
     let mut nearest = Nearest::new(launch);
     for other in release.all_launches() {
         nearest.add(alloc, other.name())?;
@@ -116,14 +181,100 @@ fn launch_advice(
     line.push_path(manifest)?;
     let quoted = Quoted(launch);
     write!(line, " has no launch {quoted}{nearest}").map_err(|_| NoMemory)?;
-    Ok(line)
+    Ok(Vec::from_slice(alloc, line.as_slice())?)
 }
 
-/// Which command says where a manifest is at fault.
-fn check_line(alloc: Global, manifest: &str) -> Result<Line, NoMemory> {
+/// That a launch has no devicetree.
+fn no_devicetree(alloc: Global, launch: &str) -> Result<Vec<u8>, NoMemory> {
     let mut line = Line::new(alloc);
-    line.push_text("`rim check ")?;
-    line.push_path(manifest)?;
-    line.push_text("` says where")?;
-    Ok(line)
+    let quoted = Quoted(launch);
+    write!(line, "launch {quoted} has no item of the kind \"dtb\"").map_err(|_| NoMemory)?;
+    Ok(Vec::from_slice(alloc, line.as_slice())?)
+}
+
+/// The remark on a launch that is refused.
+fn refusal<O: Opener>(
+    alloc: Global,
+    opener: &mut O,
+    manifest: &str,
+    launch: &str,
+) -> Result<Option<Remark>, NoMemory> {
+    let Ok(found) = read_launch(alloc, opener, manifest, launch) else {
+        return Ok(None);
+    };
+    let loaded = found.loaded();
+    match accept(alloc, loaded)? {
+        Ok(_) => Ok(None),
+        Err(reason) => Ok(Some(refusal_remark(alloc, loaded.launch, loaded.files, &reason)?)),
+    }
+}
+
+/// The remarks on the launches that a request is about and that are refused. A map, and a check, say it themselves.
+fn refusals<O: Opener>(
+    alloc: Global,
+    opener: &mut O,
+    request: &Request,
+) -> Result<Vec<Remark>, NoMemory> {
+    let path = request.path;
+    match request.ask {
+        Ask::Manifest(ManifestAsk::Measure { .. } | ManifestAsk::Audit) => {
+            match check_path(alloc, opener, path, true, &mut None) {
+                Ok(found) => Ok(found.faults),
+                Err(_) => Ok(Vec::new(alloc)),
+            }
+        }
+        Ask::Launch {
+            launch,
+            ask: LaunchAsk::List | LaunchAsk::Trace,
+        } => {
+            let mut remarks = Vec::new(alloc);
+            if let Some(remark) = refusal(alloc, opener, path, launch)? {
+                remarks.push(remark)?;
+            }
+            Ok(remarks)
+        }
+        Ask::Manifest(ManifestAsk::Check { .. })
+        | Ask::Launch {
+            ask: LaunchAsk::Map { .. } | LaunchAsk::Dtb,
+            ..
+        }
+        | Ask::File(_) => Ok(Vec::new(alloc)),
+    }
+}
+
+/// Why a file that is no manifest is refused.
+fn file_advice<O: Opener>(
+    alloc: Global,
+    opener: &mut O,
+    path: &str,
+    fault: Fault,
+) -> Result<Vec<u8>, NoMemory> {
+    let bytes = match read_or_why(alloc, opener, path) {
+        Ok(bytes) => bytes,
+        Err(why) => return unread_advice(alloc, path, why),
+    };
+    let bytes = bytes.as_slice();
+    let text = match fault {
+        Fault::Show(ShowFault::Image(fault)) => image_front(alloc, bytes, fault)?,
+        Fault::Show(ShowFault::Dtb(fault)) => devicetree_front(alloc, bytes, fault)?,
+        _ => String::new(alloc),
+    };
+    named(alloc, path, text.as_str())
+}
+
+/// Why a file cannot be read.
+fn unread_advice(alloc: Global, path: &str, why: Unread) -> Result<Vec<u8>, NoMemory> {
+    let text = failure_text(alloc, path, why.fault, why.failure)?;
+    named(alloc, path, text.as_str())
+}
+
+/// What is said of a file, with its path; nothing where nothing is said.
+fn named(alloc: Global, path: &str, text: &str) -> Result<Vec<u8>, NoMemory> {
+    let mut line = Line::new(alloc);
+    if !text.is_empty() {
+        line.push_path(path)?;
+        line.push_text(": ")?;
+        line.push_text(text)?;
+    }
+    Ok(Vec::from_slice(alloc, line.as_slice())?)
 }

@@ -77,8 +77,8 @@ fn lines(alloc: Global, faults: &[Remark], warnings: &[Remark]) -> Result<Vec<u8
     Ok(text)
 }
 
-/// What is found of the manifest at a path.
-fn check_path<O: Opener>(
+/// What is found of the manifest at a path. `mark` becomes the line of the manifest that has its first fault.
+pub(crate) fn check_path<O: Opener>(
     alloc: Global,
     opener: &mut O,
     path: &str,

@@ -1,5 +1,5 @@
-//! Files, opened by their paths and read whole.
-ghost use Rattle.std.specs.Prelude.{◌≡◌, ◌≤◌, ℕ, IfErr, IfOk, IfSome, List, None, Some, length, map, option_map, vec_len};
+//! Files, opened by their paths and read whole, or saved.
+ghost use Rattle.std.specs.Prelude.{◌≡◌, ◌≤◌, ℕ, IfErr, IfOk, IfSome, List, None, OnOk, Some, length, map, option_map, vec_len};
 ghost use Rattle.rim_cli.specs.Files.{AreRead, IfFile, IsFileFault, IsFirstFault, IsRead, Known};
 ghost use Rattle.rim_cli.specs.declared.file.TheConstants.{FILE_LIMIT};
 
@@ -7,12 +7,13 @@ use crate::fault::Fault;
 use crate::patient::Patient;
 use rim_release::{Files, Release};
 use std::alloc::Global;
+use std::io;
 use std::io::{ErrorKind, Read};
 
 /// The most bytes that a file may have: 256 MiB. This project's choice.
 pub const FILE_LIMIT: u64 = 268_435_456;
 
-/// What opens files by their paths.
+/// What opens and saves files by their paths.
 pub trait Opener {
     // What is known of a path: that no file can be opened there, or the bytes of the file there.
     ghost held: { Self → List ℕ → Known } = { λ _ _. None };
@@ -24,6 +25,14 @@ pub trait Opener {
         ensures bytes { IfSome result (λ reader. IfFile (held self.old path.now)
             (λ bytes. Self.Reader.remaining reader ≡ Some bytes)) }
         ensures stays { held self.new ≡ held self.old };
+
+    /// Makes a file with these bytes, in place of one that is there: it has all of them, or is as it was. No file can be saved where
+    /// this is not said otherwise.
+    fn save(&mut self, path: &str, bytes: &[u8]) -> io::Result<()>
+        ensures { OnOk result (IfFile (held self.new path.now) (λ file. file ≡ bytes.now)) }
+    {
+        Err(io::Error::from(ErrorKind::Unsupported))
+    }
 
     /// Why the last file could not be opened, where that is known. No clause speaks of it.
     fn failure(&self) -> Option<ErrorKind> {

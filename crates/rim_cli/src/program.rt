@@ -1,19 +1,18 @@
 //! A run of the program, over any files and streams.
-ghost use Rattle.std.specs.Prelude.{◌≡◌, ◌≢◌, ◌≤◌, ◌⊎◌, OnOk, codes, map, false, true};
+ghost use Rattle.std.specs.Prelude.{◌≡◌, ◌≢◌, ◌≤◌, ◌⊎◌, ◌&&◌, OnOk, codes, is_some, map, not, false, true};
 ghost use Rattle.std.specs.Io.KnownBytes.{Appends};
 ghost use Rattle.std.specs.Str.{bytes_eq};
 ghost use Rattle.clap.specs.Words.{kind_of, takes};
 ghost use Rattle.rim_words.specs.Command.{AsksForBytes, AsksForHelp, HasCrew, IsMistaken, is_asked, rim, verb_of};
-ghost use Rattle.rim_cli.specs.Done.{AsksFor, EndsWithFault, IsDone};
+ghost use Rattle.rim_cli.specs.Done.{AsksFor, EndsWithFault, IsDone, IsWritten, output_of};
 ghost use Rattle.std.specs.IoError.{error_kind};
 ghost use Rattle.rim_cli.specs.Status.{status_of, unreadable_status};
 
-use crate::advice::advise;
-use crate::answer::answer_to;
+use crate::advice::{advise, explain_refusals, is_explained, show_mark, show_unsaved};
+use crate::answer::{Answer, answer_to};
 use crate::fault::Fault;
 use crate::file::Opener;
 use clap::error::ErrorKind as UsageKind;
-use rim_check::MarkedLine;
 use rim_release::Gate;
 use rim_words::{Ask, CommandFault, LaunchAsk, Request, command};
 use shown_text::Line;
@@ -31,20 +30,19 @@ pub struct Terminals {
     pub err: bool,
 }
 
-/// The status of a run that ends with a fault of the manifest, a file or the output.
-const FAULT: u8 = 3;
-
 /// Runs the program on the words of a command line, of which the first is the program's name.
 ///
-/// `gate` is called around the jobs of `rim measure` and the launches of `rim audit`. Files are opened by `opener`, output goes
-/// to `out`, usage texts and the one line of a fault go to `err`, and where that is a terminal one more line says where to look. The
+/// `gate` is called around the jobs of `rim measure` and the launches of `rim audit`. Files are opened by `opener`. Output goes
+/// to `out`, or is saved by `opener` in the file that the words name. Usage texts and the one line of a fault go to `err`; where that is a
+/// terminal, or the words ask for it, a line follows that says why. The
 /// answer is the exit status: 0 done, 1 some launch is refused or a listing is not what it says, 2 usage, 3 a fault of the manifest, a
 /// file or the output, 4 want of memory. Output is made whole before any of it is written.
 ///
-/// Where the words are taken, 0 and 1 say that the text that they ask for was added to `out`: 1 exactly where that
+/// Where the words are taken, 0 and 1 say that the text that they ask for was written, which is that it was added to `out`, or that `out` is as
+/// it was and the file that the words name has just this text: 1 exactly where that
 /// text says that a launch is refused, or `no` of a listing that was replayed. 3 says that the request is refused with a
-/// fault that holds, and `out` is as it was; or that the text was made and could not be written; or that it was added to
-/// `out`, and is that of a check which found the manifest or a file of it at fault, or too many pages; or that `out` is a terminal, and is
+/// fault that holds, and `out` is as it was; or that the text was made and could not be written; or that it was
+/// written, and is that of a check which found the manifest or a file of it at fault, or too many pages; or that `out` is a terminal, and is
 /// to be bytes that are no text. Such bytes are never written to a terminal. 2 is not answered. After 2 and 4 `out`
 /// is as it was. No clause says what is on `err`, since writing there may fail and changes no status.
 pub fn run<R: Threads + Wait + Sync, G: Gate + Sync, S: AsStr, O: Opener, W: Write, E: Write>(
@@ -60,13 +58,13 @@ pub fn run<R: Threads + Wait + Sync, G: Gate + Sync, S: AsStr, O: Opener, W: Wri
     ensures known { result ≤ 4 }
     ensures done { takes rim (map S.text words.now) ≡ true → result ≤ 1
         → AsksFor (map S.text words.now) (λ request. IsDone request (O.held opener.old)
-        (W.contents out.old) (W.contents out.new) result) }
+        (O.held opener.new) (W.contents out.old) (W.contents out.new) result) }
     ensures usage { takes rim (map S.text words.now) ≡ true → result ≢ 2 }
     ensures mistaken { IsMistaken (map S.text words.now) → (result ≡ 2) ⊎ (result ≡ 4) }
     ensures helps { AsksForHelp (map S.text words.now) → result ≢ 2 }
     ensures refused { takes rim (map S.text words.now) ≡ true → result ≡ 3
         → AsksFor (map S.text words.now) (λ request. EndsWithFault request (O.held opener.old)
-        (out.new ≡ out.old) (W.contents out.old) (W.contents out.new) result)
+        (O.held opener.new) (out.new ≡ out.old) (W.contents out.old) (W.contents out.new) result)
         ⊎ ((terminals.out ≡ true) × (AsksForBytes (map S.text words.now) × (out.new ≡ out.old))) }
     ensures terminal { takes rim (map S.text words.now) ≡ true → terminals.out ≡ true
         → AsksForBytes (map S.text words.now) → (3 ≤ result) × (out.new ≡ out.old) }
@@ -83,39 +81,79 @@ pub fn run<R: Threads + Wait + Sync, G: Gate + Sync, S: AsStr, O: Opener, W: Wri
             return status;
         }
     };
-    if terminals.out && is_for_bytes(&request.ask) {
+    if would_show_bytes(&request, terminals) {
         return report_fault(Fault::OutputIsTerminal, err);
     }
-    let mut mark = None;
-    let status = run_request(rt, alloc, gate, request, opener, &mut mark, out, err);
-    if terminals.err && status == FAULT {
-        advise(alloc, &request, mark, opener, err);
-    }
-    status
+    run_request(rt, alloc, gate, request, terminals, opener, out, err)
 }
 
-/// Answers a request, and writes the text or the line of a fault. `mark` becomes what a check marks.
+/// Answers a request, and writes the text or the line of a fault.
 fn run_request<R: Threads + Wait + Sync, G: Gate + Sync, O: Opener, W: Write, E: Write>(
     rt: &R,
     alloc: Global,
     gate: &mut G,
     request: Request,
+    terminals: Terminals,
     opener: &mut O,
-    mark: &mut Option<MarkedLine>,
     out: &mut W,
     err: &mut E,
 ) -> u8
     requires { HasCrew request.ask }
     ensures known { (result ≤ 1) ⊎ ((3 ≤ result) × (result ≤ 4)) }
-    ensures done { result ≤ 1 → IsDone request.entry (O.held opener.old) (W.contents out.old)
-        (W.contents out.new) result }
+    ensures done { result ≤ 1 → IsDone request.entry (O.held opener.old) (O.held opener.new)
+        (W.contents out.old) (W.contents out.new) result }
     ensures refused { result ≡ 3 → EndsWithFault request.entry (O.held opener.old)
-        (out.new ≡ out.old) (W.contents out.old) (W.contents out.new) result }
+        (O.held opener.new) (out.new ≡ out.old) (W.contents out.old) (W.contents out.new) result }
     ensures kept { result ≡ 4 → out.new ≡ out.old }
 {
-    match answer_to(rt, alloc, gate, request, opener, mark) {
-        Ok(answer) => finish(answer.text.as_slice(), answer.status, out, err),
-        Err(fault) => report_fault(fault, err),
+    let mut mark = None;
+    match answer_to(rt, alloc, gate, request, opener, &mut mark) {
+        Ok(answer) => {
+            explain_refusals(alloc, &request, answer.status, opener, err);
+            let status = deliver(alloc, &request, answer, terminals, opener, out, err);
+            show_mark(&request, terminals, mark, err);
+            status
+        }
+        Err(fault) => {
+            let status = report_fault(fault, err);
+            advise(alloc, &request, terminals, fault, opener, err);
+            status
+        }
+    }
+}
+
+/// Writes the text that a request asked for to where it is to go, and answers the exit status: the text's own, or that of the fault.
+fn deliver<O: Opener, W: Write, E: Write>(
+    alloc: Global,
+    request: &Request,
+    answer: Answer,
+    terminals: Terminals,
+    opener: &mut O,
+    out: &mut W,
+    err: &mut E,
+) -> u8
+    requires { (answer.status ≤ 1) ⊎ (answer.status ≡ 3) }
+    ensures known { (result ≡ answer.status) ⊎ (result ≡ 3) }
+    ensures own { result ≤ 1 → result ≡ answer.status }
+    ensures done { result ≤ 1 → IsWritten (output_of request.now) (O.held opener.new)
+        (W.contents out.old) (W.contents out.new) answer.text.items }
+    ensures ends { ((result ≡ answer.status) × IsWritten (output_of request.now)
+        (O.held opener.new) (W.contents out.old) (W.contents out.new) answer.text.items)
+        ⊎ (result ≡ 3) }
+{
+    let text = answer.text.as_slice();
+    let Some(path) = request.output else {
+        return finish(text, answer.status, out, err);
+    };
+    match opener.save(path, text) {
+        Ok(()) => answer.status,
+        Err(error) => {
+            let status = report_unwritten(&error, err);
+            if is_explained(request, terminals) {
+                show_unsaved(alloc, path, error.kind(), err);
+            }
+            status
+        }
     }
 }
 
@@ -244,17 +282,27 @@ fn report_fault<E: Write>(fault: Fault, err: &mut E) -> u8
     fault.status()
 }
 
-/// Whether bytes are asked for that are no text, which are not for a terminal: those of a devicetree.
-fn is_for_bytes(ask: &Ask) -> bool
-    ensures { result ≡ bytes_eq (verb_of ask.now) (codes "dtb") }
+/// Whether bytes that are no text would go to a terminal.
+fn would_show_bytes(request: &Request, terminals: Terminals) -> bool
+    ensures { result ≡ (terminals.out && (bytes_eq (verb_of request.now.ask) (codes "dtb")
+        && not (is_some request.now.output))) }
 {
-    matches!(
-        ask,
+    terminals.out && is_for_bytes(request)
+}
+
+/// Whether bytes are asked for on standard output that are no text, which are not for a terminal: those of a devicetree.
+fn is_for_bytes(request: &Request) -> bool
+    ensures { result ≡ (bytes_eq (verb_of request.now.ask) (codes "dtb")
+        && not (is_some request.now.output)) }
+{
+    let is_devicetree = matches!(
+        request.ask,
         Ask::Launch {
             ask: LaunchAsk::Dtb,
             ..
         }
-    )
+    );
+    is_devicetree && request.output.is_none()
 }
 
 /// Reports a command line whose words cannot be read, in one line, and answers the exit status: 4 where

@@ -2,8 +2,10 @@
 #![tactic(auto)]
 
 mod progress;
+mod saving;
 
 use crate::progress::Progress;
+use crate::saving::save;
 pub use rim_cli::Lanes;
 use rim_cli::{Opener, TerminalWriter, Terminals, report_unreadable, run};
 use std::fs::File;
@@ -14,7 +16,7 @@ use std::sync::Wait;
 use std::thread::Threads;
 use std::time::Clock;
 
-/// Opens the files of the system.
+/// Opens and saves the files of the system.
 #[derive(Drop)]
 struct FileOpener<'a> {
     rt: &'a HostRuntime,
@@ -33,6 +35,10 @@ impl Opener for FileOpener<'_> {
                 None
             }
         }
+    }
+
+    fn save(&mut self, path: &str, bytes: &[u8]) -> io::Result<()> {
+        save(self.rt, self.rt.alloc(), path, bytes)
     }
 
     fn failure(&self) -> Option<ErrorKind> {

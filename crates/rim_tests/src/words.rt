@@ -10,9 +10,13 @@ fn no_words(rt: HostRuntime) {
 }
 
 /// Words, and whether they ask for bytes that are no text.
-const BYTES: [(&[&str], bool); 4] = [
+const BYTES: [(&[&str], bool); 5] = [
     (&["rim", "dtb", "manifest.toml", "small"], true),
     (&["rim", "dtb", "--help"], false),
+    (
+        &["rim", "dtb", "manifest.toml", "small", "-o", "dtb"],
+        false,
+    ),
     (&["rim", "list", "manifest.toml", "small"], false),
     (&["rim", "fdt", "dtb"], false),
 ];

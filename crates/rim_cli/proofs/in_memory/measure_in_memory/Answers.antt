@@ -1,15 +1,16 @@
 use Rattle.std.proofs.Common.{◌≡◌, ℕ, ◌++◌, List, ap, inl, inr, sym, subst}
 use Rattle.std.specs.Prelude.{Result, IsOkAnd}
 use Rattle.rim_pages.specs.declared.fault.StartFault.{StartFault}
-use Rattle.rim_cli.proofs.RunInMemory.{ends_above, none_made, own_status, own_text, plain_taken}
+use Rattle.rim_cli.proofs.RunInMemory.{ends_above, none_made, own_status, own_text, plain_taken, to_output}
 use Rattle.rim_cli.proofs.in_memory.measure_in_memory.Goals as goal
 
 pub returns-clause-report : goal.returns-clause-report
 returns-clause-report g c r reads none low =
     let done = c.run.ensures.done plain_taken low in
+    let written = rw (to_output done.request done.asked) at done.holds.written in
     subst (λ (m : Result (List ℕ) StartFault). IsOkAnd m (λ text. c.run.new.out.items ≡ c.args.out.now.items ++ text))
     (sym (own_text c.args.manifest.now r reads none done.holds.text c.run.result
-    (record { request = done.request; asked = done.asked; holds = done.holds.made }))) done.holds.written
+    (record { request = done.request; asked = done.asked; holds = done.holds.made }))) written
 
 pub returns-clause-status : goal.returns-clause-status
 returns-clause-status g c r reads none low =

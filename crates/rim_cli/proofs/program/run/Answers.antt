@@ -5,7 +5,6 @@ use Rattle.rim_words.specs.Command.{is_asked}
 use Rattle.rim_words.proofs.KindsOfRefusal.{asked_kind, mistaken_kind}
 use Rattle.rim_words.proofs.RequestsOfSubcommands.{for_bytes}
 use Rattle.rim_cli.proofs.program.run.Goals as goal
-use Rattle.rim_cli.proofs.program.run.Goals.{else-terminals-via-then-terminals+else-is_for_bytes, else-terminals-via-else-terminals}
 
 pub returns-in-Err-Usage-clause-mistaken : goal.returns-in-Err-Usage-clause-mistaken
 returns-in-Err-Usage-clause-mistaken g c mistaken =
@@ -17,21 +16,11 @@ returns-in-Err-Usage-clause-helps g c asks =
     c.show_usage-status.ensures.helps (ap (λ (e : Error). is_asked (kind_of e)) c.in-Err-Usage.answer-is
     ∙ asked_kind (map g.S.AsStr.text c.args.words.now) _ _ c.in-Err-Usage.field-0-is asks c.in-Err-Usage.ensures.refused)
 
-pub returns-then-status-eq-FAULT-clause-terminal : goal.returns-then-status-eq-FAULT-clause-terminal
-returns-then-status-eq-FAULT-clause-terminal g c taken out asks =
+pub returns-clause-terminal : goal.returns-clause-terminal
+returns-clause-terminal g c taken out asks =
     let bytes = for_bytes _ c.in-Ok.request c.in-Ok.ensures.reads asks in
-    absurd (elim c.else-terminals.branch [
-      | else-terminals-via-then-terminals+else-is_for_bytes w ↦ let other = sym w.is_for_bytes.ensures ∙ w.if-is_for_bytes.false in cc
-      | else-terminals-via-else-terminals w ↦ let other = w.if-terminals.false in cc
-    ])
-
-pub returns-else-terminals-2-clause-terminal : goal.returns-else-terminals-2-clause-terminal
-returns-else-terminals-2-clause-terminal g c taken out asks =
-    let bytes = for_bytes _ c.in-Ok.request c.in-Ok.ensures.reads asks in
-    absurd (elim c.else-terminals.branch [
-      | else-terminals-via-then-terminals+else-is_for_bytes w ↦ let other = sym w.is_for_bytes.ensures ∙ w.if-is_for_bytes.false in cc
-      | else-terminals-via-else-terminals w ↦ let other = w.if-terminals.false in cc
-    ])
+    let other = rw (out, bytes) at (sym c.would_show_bytes.ensures ∙ c.if-would_show_bytes.false) in
+    cc
 
 pub returns-in-Err-NoMemory-clause-usage : goal.returns-in-Err-NoMemory-clause-usage
 returns-in-Err-NoMemory-clause-usage g c = search rules

@@ -4,16 +4,16 @@ use Rattle.rim_cli.proofs.program.run_request.Goals as goal
 pub returns-in-Ok-clause-done : goal.returns-in-Ok-clause-done
 returns-in-Ok-clause-done g c done = record {
   text = c.in-Ok.answer.text.items;
-  made = rw (c.finish.ensures.own done) c.in-Ok.ensures.answered;
-  written = rw (← c.as_slice.ensures.value) (c.finish.ensures.done done);
+  made = rw (c.deliver-status.ensures.own done) c.in-Ok.ensures.answered;
+  written = c.deliver-status.ensures.done done;
 }
 
 pub returns-in-Ok-clause-refused : goal.returns-in-Ok-clause-refused
-returns-in-Ok-clause-refused g c failed = inr (elim c.finish.ensures.ends [
+returns-in-Ok-clause-refused g c failed = inr (elim c.deliver-status.ensures.ends [
   | inl written ↦ inr (record {
     text = c.in-Ok.answer.text.items;
     made = rw written.0 c.in-Ok.ensures.answered;
-    written = rw (← c.as_slice.ensures.value) written.1;
+    written = written.1;
   })
   | inr three ↦ inl (record {
     text = c.in-Ok.answer.text.items;
@@ -27,7 +27,7 @@ returns-in-Err-clause-refused g c failed = inl (
   record {
     fault = c.in-Err.fault;
     refused = c.in-Err.ensures.refused;
-    status = c.report_fault.ensures.value;
+    status = c.report_fault-status.ensures.value;
   },
   refl,
 )
