@@ -352,7 +352,7 @@ def of_folders(program: str) -> list[str]:
                      (0, '{"version": 2, "notes": [], "differences": []}\n', ""))
     here.put("realms/manifest-2.toml", b"rim_manifest = 1\nlunch = 1")
     return wrong + differs("a fault in a folder", here.run("kept.json", "realms", start=START, RIM=program),
-                           (3, "", "rim-compare: rim: unknown-key; `rim check manifest-2.toml` in realms says where\n"))
+                           (3, "", 'rim-compare: manifest-2.toml:2:1: manifest: unknown-key: "lunch" (nearest: launch) (in realms)\n'))
 
 
 def value_in(here: Folder, path: str) -> str:
@@ -385,7 +385,7 @@ MISBEHAVING = [
      "('two launches have one name')"),
     ("endless", "exec yes", [], 3, "manifest-1.toml: status -25"), ("killed", "kill -9 $$", [], 3, "manifest-1.toml: status -9"),
     ("wrong words", "exit 2", ["--jso"], 2, "manifest-1.toml: status 2\n"), ("no memory", "exit 4", [], 4, "manifest-1.toml: status 4\n"),
-    ("a fault", "exit 3", [], 3, "manifest-1.toml: status 3; `rim check manifest-1.toml` in "), ("status 77", "exit 77", [], 3, "status 77\n"),
+    ("a fault", "exit 3", [], 3, "manifest-1.toml: status 3\n"), ("status 77", "exit 77", [], 3, "status 77\n"),
     ("one that goes on", "sleep 1000 &\nexec /bin/false", [], 3, "a report of rim is none ("),
 ]
 
@@ -471,11 +471,11 @@ WORDS = [
     (["deep.json", "m.toml"], 3, "deep.json: it is no JSON that is read here"),
     (["bytes.json", "m.toml"], 3, "bytes.json: it is no UTF-8 at byte 1, expected a report"),
     (["kept.json", "bytes.json"], 3, "bytes.json: it is no UTF-8 at byte 1, expected a report"),
-    (["kept.json", "key.toml"], 3, "rim: unknown-key; `rim check key.toml` says where"),
-    (["kept.json", "key $(b).toml"], 3, "rim: unknown-key; `rim check 'key $(b).toml'` says where"),
-    (["kept.json", "toml.toml"], 3, "rim: syntax; `rim check toml.toml` says where"),
-    (["kept.json", "gone-file.toml"], 3, "rim: file-unreadable; `rim check gone-file.toml` says where"),
-    (["kept.json", "empty"], 3, "rim: version; `rim check empty` says where"),
+    (["kept.json", "key.toml"], 3, 'key.toml:6:1: launch "a": unknown-key: "ss2z" (nearest: s2sz)'),
+    (["kept.json", "key $(b).toml"], 3, 'key $(b).toml:6:1: launch "a": unknown-key: "ss2z" (nearest: s2sz)'),
+    (["kept.json", "toml.toml"], 3, "toml.toml:1:16: syntax: invalid value, expected a string"),
+    (["kept.json", "gone-file.toml"], 3, "none: file-unreadable: there is no such file in the folder where rim runs"),
+    (["kept.json", "empty"], 3, "empty:1:1: manifest: rim_manifest: version: not given, expected 1 or 2"),
 ]
 
 

@@ -469,7 +469,7 @@ def others(program: str) -> list[str]:
     of_name(launch_of(table, "bad"), "initrd")["at"] = 0x50000000
     values = measured(program, here, table)
     here.put("m.toml", whole(table).encode())
-    fake = f'#!/bin/sh\n[ "$1 $3" = "measure m.toml" ] && {{ echo "rim: too-many-pages" >&2; exit 3; }}\nexec {program} "$@"\n'
+    fake = f'#!/bin/sh\n[ "$1 $4" = "measure m.toml" ] && {{ echo "rim: too-many-pages" >&2; exit 3; }}\nexec {program} "$@"\n'
     here.put("fake", fake.encode(), is_program=True)
     six, seven = (", ".join(f'"twin-{n}"' for n in range(count)) for count in (6, 7))
     wrong = []
@@ -570,7 +570,7 @@ WORDS = [
     (["--file", "none=Image", "m.toml", "plain", NEVER], 2, '--file: "none" is no file of m.toml, expected one of "k", "i", "t", "s"'),
     (["--file", "k=gone", "m.toml", "plain", NEVER], 3, "gone: No such file or directory"),
     (["--append-file", "fifo", "m.toml", "plain", NEVER], 3, "fifo: it is a FIFO, expected command lines, one a line"),
-    (["--also", "key.toml", "m.toml", "plain", NEVER], 3, "rim: unknown-key; `rim check key.toml` says where"),
+    (["--also", "key.toml", "m.toml", "plain", NEVER], 3, 'key.toml:8:1: launch "plain": unknown-key: "ss2z" (nearest: s2sz)'),
     (["--kept", "trace", "--limit", "9", "m.toml", "plain", NEVER], 3, "trace: it is no JSON that is read here"),
     (["--contents", "Image", "m.toml", "plain", NEVER], 2, "--contents: it is of --nearest, expected both"),
     (["--nearest", "trace", "--also", "m.toml", "m.toml"], 2, "--also: it is of a search, expected no --nearest beside it"),
@@ -589,22 +589,22 @@ WORDS = [
     (["gone.toml", "plain", NEVER], 3, "gone.toml: No such file or directory, expected a manifest"),
     (["m.toml", "plane", NEVER], 3, 'rim: no-such-launch: "plane", expected one of m.toml: "plain", "stub"'),
     (["none.toml", "plain", NEVER], 3, 'rim: no-such-launch: "plain", expected one of none.toml: it has none'),
-    (["key.toml", "plain", NEVER], 3, "rim: unknown-key; `rim check key.toml` says where"),
-    (["range.toml", "plain", NEVER], 3, "rim: range; `rim check range.toml` says where"),
-    (["a $(b).toml", "plain", NEVER], 3, "rim: unknown-key; `rim check 'a $(b).toml'` says where"),
-    (["toml.toml", "plain", NEVER], 3, "rim: syntax; `rim check toml.toml` says where"),
+    (["key.toml", "plain", NEVER], 3, 'key.toml:8:1: launch "plain": unknown-key: "ss2z" (nearest: s2sz)'),
+    (["range.toml", "plain", NEVER], 3, 'range.toml:7:1: launch "plain": s2sz: range: 99 (0x63), expected a whole number from 32 to 48'),
+    (["a $(b).toml", "plain", NEVER], 3, 'a $(b).toml:8:1: launch "plain": unknown-key: "ss2z" (nearest: s2sz)'),
+    (["toml.toml", "plain", NEVER], 3, "toml.toml:1:16: syntax: invalid value, expected a string"),
     (["new.toml", "old", NEVER], 3, "new.toml: it is no TOML that is read here (Invalid"),
-    (["file.toml", "plain", NEVER], 3, "rim: file-unreadable; `rim check file.toml` says where"),
+    (["file.toml", "plain", NEVER], 3, "none: file-unreadable: there is no such file in the folder where rim runs"),
     (["fifo", "plain", NEVER], 3, "fifo: it is a FIFO, expected a manifest"),
     (["/dev/zero", "plain", NEVER], 3, "/dev/zero: it is a device, expected a manifest"),
-    (["deep.toml", "plain", NEVER], 3, "rim: "),
+    (["deep.toml", "plain", NEVER], 3, "deep.toml:1:96: syntax: cannot recurse further"),
     (["--nearest", "/dev/zero", "m.toml"], 3, "/dev/zero: it is a device, expected lines as `rim trace` prints them"),
     (["--nearest", "fifo", "m.toml"], 3, "fifo: it is a FIFO, expected lines as `rim trace` prints them"),
     (["--nearest", "trace", "fifo"], 3, "fifo: it is a FIFO, expected a manifest"),
     (["--nearest", "gone", "m.toml"], 3, "gone: No such file or directory, expected lines as `rim trace` prints them"),
     (["--nearest", "m.toml", "m.toml"], 3, 'm.toml: its first line is "rim_manifest = 2", expected lines as `rim trace` prints them'),
     (["--nearest", "trace", "m.toml", "plane"], 3, 'rim: no-such-launch: "plane"'),
-    (["--nearest", "trace", "key.toml"], 3, "rim: unknown-key; `rim check key.toml` says where"),
+    (["--nearest", "trace", "key.toml"], 3, 'key.toml:8:1: launch "plain": unknown-key: "ss2z" (nearest: s2sz)'),
     (["--nearest", "trace", "none.toml"], 3, "none.toml: it has no launch"),
 ]
 

@@ -56,10 +56,10 @@ def program() -> Rim:
 
 def measured(path: str, folder: str | None = None) -> Report:
     """The report of the manifest at a path, which the program makes now; in a folder where the paths of the manifest are as from there."""
-    ran = program().run("measure", "--json", "--", path, limits=Limits(out=MOST), folder=folder)
+    ran = program().run("measure", "--json", "--explain", "--", path, limits=Limits(out=MOST), folder=folder)
     if ran.status not in (0, 1):
-        there = f" in {pasted(folder)}" if folder else ""
-        raise Fault(f"{ran.said}; `rim check {pasted(path)}`{there} says where" if ran.status == 3 else ran.said)
+        there = f" (in {pasted(folder)})" if folder else ""
+        raise Fault(f"{ran.said.strip()}{there}")
     return report.read(ran.out, program().path)
 
 

@@ -21,7 +21,7 @@ from . import dumps, explain, lines, logs, nearest, parts, program
 from .axes import AXES
 from .files import Files, Hints
 from .launch import Launch
-from .manifests import MOST, Manifest, fault_of, held, hold, list_of, manifest, names_of, no_such_launch, table_of
+from .manifests import MOST, Manifest, held, hold, list_of, manifest, names_of, no_such_launch, table_of
 from .program import Runs
 from .search import Candidate, Search
 from .words import ABOUT, SECONDS, Words, check_operands, parse
@@ -235,9 +235,9 @@ def near(rim: Rim, folder: str, said: Words) -> int:
     contents = explain.contents(said.contents)
     data = outside_files.read(path, MOST, "a manifest")
     # no launch has this name: what is wrong with the manifest comes first
-    ran = rim.run("trace", "--", path, "")
-    if ran.status > 1 and "no-such-launch" not in ran.said:
-        raise fault_of(ran.said, path)
+    ran = rim.run("trace", "--explain", "--", path, "")
+    if ran.status > 1 and b"no-such-launch" not in ran.err:
+        raise Fault(ran.said.strip())
     names = names_of(table_of(path, data))
     if name and name[0] not in names:
         raise no_such_launch(name[0], names, path)

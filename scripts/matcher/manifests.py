@@ -5,7 +5,7 @@ from outside import files as outside_files
 from outside.faults import Fault
 from outside.programs import Ran
 from outside.rim import Rim
-from outside.texts import pasted, shown, visible
+from outside.texts import shown, visible
 
 from .files import Files, read
 from .launch import Launch, launch_of
@@ -66,10 +66,10 @@ def held(files: Files, of: Manifest) -> list[Launch]:
 def report_of(rim: Rim, path: str) -> tuple[dict[str, str], dict[str, object]]:
     """What `rim measure` says of each launch of a manifest, by its name, and the manifest as Python reads it."""
     data = outside_files.read(path, MOST, "a manifest")
-    ran = rim.run("measure", "--", path)
+    ran = rim.run("measure", "--explain", "--", path)
     if ran.status > 1 or ran.status < 0:
         if "too-many-pages" not in ran.said:
-            raise fault_of(ran.said, path)
+            raise Fault(ran.said.strip())
         return {}, table_of(path, data)
     return values_of(ran), table_of(path, data)
 
@@ -82,10 +82,6 @@ def values_of(ran: Ran) -> dict[str, str]:
     """The lines of a report: what came of each launch by its name."""
     rows = [line.split(" ", 1) for line in ran.out.decode("ascii", errors="replace").splitlines()[1:-1]]
     return {row[0]: row[1] for row in rows if len(row) == 2}
-
-
-def fault_of(said: str, path: str) -> Fault:
-    return Fault(f"{said}; `rim check {pasted(path)}` says where")
 
 
 def tables_of(table: dict[str, object], key: str) -> list[dict]:

@@ -6,7 +6,7 @@ from dataclasses import dataclass, field
 
 from outside.faults import Fault
 from outside.rim import Rim
-from outside.texts import pasted, plain, visible
+from outside.texts import plain, visible
 
 from . import explain
 from .explain import Content, Known
@@ -71,7 +71,7 @@ def of_launches(rim: Rim, manifest: str, names: list[str], there: Log) -> Found:
     """How near each launch is."""
     found, steps = Found(), counted(there.steps, there)
     for name in names:
-        ran = rim.run("trace", "--", manifest, name)
+        ran = rim.run("trace", "--explain", "--", manifest, name)
         out = ran.out.decode("ascii", errors="replace")
         if ran.status == 0:
             lines = out.splitlines()
@@ -80,7 +80,7 @@ def of_launches(rim: Rim, manifest: str, names: list[str], there: Log) -> Found:
         elif ran.status == 1:
             found.refused.append(out.strip())
         else:
-            raise Fault(f"{ran.said}; `rim check {pasted(manifest)}` says where")
+            raise Fault(ran.said.strip())
     return found
 
 

@@ -48,7 +48,7 @@ class Ran:
 
     @property
     def said(self) -> str:
-        """The last line that it has said on standard error, or what its status is."""
+        """The last line that it has said on standard error, or what its status is. By `--explain` that of `rim` is why."""
         return last_line(self.err.decode(errors="surrogateescape"), f"status {self.status}")
 
 

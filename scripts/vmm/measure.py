@@ -3,7 +3,7 @@
 
 usage: measure [--json] [--workers N]
 
-The words are those of `rim measure`. The program is the one that the variable RIM names, or else `rim` of the PATH. The report is
+The words are those of `rim measure`, which is asked to explain each fault. The program is the one that the variable RIM names, or else `rim` of the PATH. The report is
 written as `rim measure` writes it, once all of it is made. Its `pages` is the sum of those of the manifests: a page of two manifests is
 hashed twice. Its `files` has each path once: a file that has two contents was changed meanwhile, which is a fault. The status is the
 greatest of those of the runs: 1 where a launch is refused, 2 to 4 for a fault, and then there is no report; 130, 143 or 129 where INT,
@@ -70,7 +70,8 @@ def measured(rim: str, folder: str, name: str, words: list[str]) -> tuple[int, b
     """The status and the report of a manifest. All that the program has started is killed where it ends, or a signal comes."""
     with tempfile.TemporaryFile() as out:
         HELD.append(name)
-        ran = subprocess.Popen([rim, "measure", name, *words], cwd=folder, stdin=subprocess.DEVNULL, stdout=out, start_new_session=True)
+        explain = [] if "--explain" in words else ["--explain"]
+        ran = subprocess.Popen([rim, "measure", *explain, name, *words], cwd=folder, stdin=subprocess.DEVNULL, stdout=out, start_new_session=True)
         try:
             HELD.clear()
             if CAME:
@@ -142,8 +143,7 @@ def run(words: list[str]) -> int:
         statuses.append(status if 0 <= status <= 4 else 3)
         reports.append(report)
         if statuses[-1] > 1:
-            hint = f"; `rim check {name}` in {folder!r} says what is wrong, if it is the manifest" * (status == 3)
-            print(f"measure: {name}: status {status}{hint}", file=sys.stderr)
+            print(f"measure: {name}: status {status}", file=sys.stderr)
     if max(statuses) <= 1:
         sys.stdout.buffer.write(joined(reports, "--json" in words))
     return max(statuses)

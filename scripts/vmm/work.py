@@ -257,9 +257,11 @@ class Work:
         """Measures the launches, and prints the report; the status is that of `rim measure`."""
         reports, statuses = [], []
         for name in measure.manifests(self.out):
-            ran = programs.run([self.rim.path, "measure", name, *(["--json"] if "json" in self.said else [])], REPORT, self.out)
+            said = ["--json"] if "json" in self.said else []
+            ran = programs.run([self.rim.path, "measure", "--explain", *said, name], REPORT, self.out)
             if ran.status not in (0, 1):
-                raise Fault(f"{visible(os.path.join(self.out, name))}: {ran.said.removeprefix('rim: ')}, expected a manifest that is measured")
+                why = ran.said.strip().removeprefix("rim: ")
+                raise Fault(f"{visible(os.path.join(self.out, name))}: {why}; expected a manifest that is measured")
             reports.append(ran.out)
             statuses.append(ran.status)
         print(measure.joined(reports, "json" in self.said).decode(), end="", flush=True)

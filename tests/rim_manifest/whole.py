@@ -61,7 +61,8 @@ def measured(program: str):
         wrong += differs("refused", (status, out.splitlines()[1]), (1, "256M-smp1-Image-no-initrd-sha512 refused overlap"))
         folder.put("out/manifest.toml", text.replace("s2sz = 41", "s2sz = 49").encode())
         status, out, said = folder.run(start=measure, RIM=program)
-        return wrong + differs("a fault", (status, out, "rim check manifest.toml" in said), (3, "", True))
+        why = "s2sz: range: 49 (0x31), expected a whole number from 32 to 48\nmeasure: manifest.toml: status 3\n"
+        return wrong + differs("a fault", (status, out, said.startswith("rim: range\n  manifest.toml:"), said.endswith(why)), (3, "", True, True))
 
 
 PASTED = ["-M", "virt", "-cpu", "max", "-M", "gic-version=3,dtb-randomness=off", "-m", "256M", "-smp", "4", "-kernel", "Image", "-nographic",
