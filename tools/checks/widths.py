@@ -15,22 +15,23 @@ import re
 import sys
 
 TOP = pathlib.Path(__file__).resolve().parent.parent.parent
-CRATE = TOP / "crates" / "rim_sha"
+CRATES = TOP / "crates"
+FROM, MADE = "rim_sha256", "rim_sha512"
 # The files, and folders of them, that are written for SHA-256, within its crate.
 SAME = [
-    "src/sha256/lanes.rt",
-    "src/sha256/vectors.rt",
-    "src/sha256/lanes/known_blocks.rt",
-    "src/sha256/lanes/loading.rt",
-    "src/sha256/lanes/messages.rt",
-    "src/sha256/lanes/rounds.rt",
-    "proofs/KnownBlocks256.antt",
-    "proofs/Messages256.antt",
-    "proofs/sha256/vectors",
-    "proofs/sha256/lanes/known_blocks",
-    "proofs/sha256/lanes/loading",
-    "proofs/sha256/lanes/messages",
-    "proofs/sha256/lanes/rounds",
+    "src/lanes.rt",
+    "src/vectors.rt",
+    "src/lanes/known_blocks.rt",
+    "src/lanes/loading.rt",
+    "src/lanes/messages.rt",
+    "src/lanes/rounds.rt",
+    "proofs/KnownBlocks.antt",
+    "proofs/MessageHashes.antt",
+    "proofs/vectors",
+    "proofs/lanes/known_blocks",
+    "proofs/lanes/loading",
+    "proofs/lanes/messages",
+    "proofs/lanes/rounds",
 ]
 # What SHA-256 has, and what SHA-512 has there. Of the patterns that fit at a place the first counts.
 TABLE = [
@@ -77,22 +78,23 @@ def made_from(file: str, text: str) -> str:
     return f"-- {ORIGIN}\n{widened(text)}"
 
 
-def files(place: str) -> set[str]:
-    """The files at a place of the crate: it may be one, a folder of them, or nothing."""
-    path = CRATE / place
+def files(crate: str, place: str) -> set[str]:
+    """The files at a place of a crate: it may be one, a folder of them, or nothing."""
+    folder = CRATES / crate
+    path = folder / place
     if path.is_dir():
-        return {str(each.relative_to(CRATE)) for each in path.rglob("*") if each.is_file()}
+        return {str(each.relative_to(folder)) for each in path.rglob("*") if each.is_file()}
     return {place} if path.exists() else set()
 
 
 def texts() -> dict[str, str]:
     """The files of SHA-512, with their texts as they are made."""
-    return {widened(file): made_from(file, (CRATE / file).read_text()) for place in SAME for file in sorted(files(place))}
+    return {file: made_from(file, (CRATES / FROM / file).read_text()) for place in SAME for file in sorted(files(FROM, place))}
 
 
 def kept() -> dict[str, str]:
-    """The files that are in these places, with their texts."""
-    return {file: (CRATE / file).read_text() for place in SAME for file in files(widened(place))}
+    """The files that are in these places of SHA-512's crate, with their texts."""
+    return {file: (CRATES / MADE / file).read_text() for place in SAME for file in files(MADE, place)}
 
 
 def check() -> int:
@@ -100,7 +102,7 @@ def check() -> int:
     made, now = texts(), kept()
     wrong = sorted(file for file in made | now if made.get(file) != now.get(file))
     for file in wrong:
-        print(f"crates/rim_sha/{file} is not what tools/checks/widths.py makes")
+        print(f"crates/{MADE}/{file} is not what tools/checks/widths.py makes")
     print(f"{len(made)} files of SHA-512 are made from those of SHA-256; {len(wrong)} differ")
     return int(bool(wrong))
 
@@ -109,10 +111,10 @@ def write() -> int:
     """Writes what is made, and removes what is not made any more."""
     made = texts()
     for file in kept().keys() - made.keys():
-        (CRATE / file).unlink()
+        (CRATES / MADE / file).unlink()
     for file, text in made.items():
-        (CRATE / file).parent.mkdir(parents=True, exist_ok=True)
-        (CRATE / file).write_text(text)
+        (CRATES / MADE / file).parent.mkdir(parents=True, exist_ok=True)
+        (CRATES / MADE / file).write_text(text)
     return 0
 
 

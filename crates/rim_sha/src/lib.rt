@@ -10,13 +10,9 @@ ghost use Rattle.std.specs.List.{All};
 ghost use Rattle.sha2.specs.Sha256.{sha256};
 ghost use Rattle.sha2.specs.Sha512.{sha512};
 
-mod sha256;
-mod sha512;
-mod side_by_side;
-
+use rim_sha256::sha256_headed;
+use rim_sha512::{sha512_headed, sha512_of_two};
 use sha2::{Digest, Sha256};
-use sha256::one::headed::sha256_headed;
-use sha512::messages::{sha512_headed, sha512_of_two};
 
 const ZEROS: [u8; 128] = [0; 128];
 
@@ -26,7 +22,7 @@ pub fn sha256_four(messages: &[&[u8]; 4], size: usize) -> [[u8; 32]; 4]
     requires whole { size % 64 ≡ 0 }
     ensures { result ≡ map (λ m. sha256 m.now) messages.now }
 {
-    sha256::lanes::messages::digests_of(messages, size)
+    rim_sha256::digests_of(messages, size)
 }
 
 /// The SHA-256 digests of eight messages of one size in bytes, which is a whole number of blocks of 64, side by side.
@@ -35,7 +31,7 @@ pub fn sha256_eight(messages: &[&[u8]; 8], size: usize) -> [[u8; 32]; 8]
     requires whole { size % 64 ≡ 0 }
     ensures { result ≡ map (λ m. sha256 m.now) messages.now }
 {
-    sha256::lanes::messages::digests_of(messages, size)
+    rim_sha256::digests_of(messages, size)
 }
 
 /// The SHA-256 digest of a descriptor (FIPS 180-4, 6.2). It is quicker where the last 128 bytes are zero, and else
@@ -70,7 +66,7 @@ fn sha256_descriptors_side_by_side<const N: usize>(descriptors: &[[u8; 256]; N])
     ensures { result ≡ map sha256 descriptors.now }
 {
     if have_zero_tails(descriptors) {
-        sha256::lanes::messages::digests(&sha256::lanes::descriptors::headed_hashes(descriptors))
+        rim_sha256::digests(&rim_sha256::headed_hashes(descriptors))
     } else {
         one_by_one(descriptors)
     }
@@ -125,7 +121,7 @@ pub fn sha512_four(messages: &[&[u8]; 4], size: usize) -> [[u8; 64]; 4]
     requires whole { size % 128 ≡ 0 }
     ensures { result ≡ map (λ m. sha512 m.now) messages.now }
 {
-    sha512::lanes::messages::digests_of(messages, size)
+    rim_sha512::digests_of(messages, size)
 }
 
 /// The SHA-512 digests of four descriptors, side by side. They are quickest where the last 128 bytes of each are zero.
@@ -133,10 +129,10 @@ pub fn sha512_four_descriptors(descriptors: &[[u8; 256]; 4]) -> [[u8; 64]; 4]
     ensures { result ≡ map sha512 descriptors.now }
 {
     if have_zero_tails(descriptors) {
-        sha512::lanes::messages::digests(&sha512::lanes::descriptors::headed_hashes(descriptors))
+        rim_sha512::digests(&rim_sha512::headed_hashes(descriptors))
     } else {
         let [a, b, c, d] = descriptors;
         let messages = [&a[..], &b[..], &c[..], &d[..]];
-        sha512::lanes::messages::digests(&sha512::lanes::descriptors::hashes_of_two(&messages))
+        rim_sha512::digests(&rim_sha512::hashes_of_two(&messages))
     }
 }

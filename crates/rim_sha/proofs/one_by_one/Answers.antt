@@ -1,6 +1,6 @@
 use Rattle.std.proofs.Common.{[], arith}
 use Rattle.sha2.specs.Sha256.{sha256}
-use Rattle.rim_sha.proofs.LaneByLane.{is_map}
+use Rattle.sha_lanes.proofs.LaneByLane.{is_map}
 use Rattle.rim_sha.proofs.one_by_one.Goals as goal
 
 pub returns : goal.returns

@@ -1,6 +1,6 @@
 use Rattle.std.proofs.Common.{ℕ, List, [], ap, ◌∙◌, arith}
 use Rattle.sha2.specs.Sha256.{digest_bytes, sha256}
-use Rattle.rim_sha.proofs.LaneByLane.{is_map}
+use Rattle.sha_lanes.proofs.LaneByLane.{is_map}
 use Rattle.rim_sha.proofs.sha256_descriptors_side_by_side.Goals as goal
 
 pub returns-then-have_zero_tails : goal.returns-then-have_zero_tails

@@ -1,6 +1,6 @@
 use Rattle.std.proofs.Common.{ℕ, List, [], slice_index_or, ap, ◌∙◌, arith}
 use Rattle.sha2.specs.Sha512.{digest_bytes, sha512}
-use Rattle.rim_sha.proofs.LaneByLane.{four_places, is_map}
+use Rattle.sha_lanes.proofs.LaneByLane.{four_places, is_map}
 use Rattle.rim_sha.proofs.sha512_four_descriptors.Goals as goal
 
 pub returns-then-have_zero_tails : goal.returns-then-have_zero_tails

@@ -1,8 +1,0 @@
-use Rattle.std.proofs.Common.{◌≡◌, ℕ, List, ◌*◌, ◌<◌}
-use Rattle.sha2.specs.Sha256.{rounds, schedule}
-use Rattle.rim_sha.specs.Sums.{AreSums256}
-use Rattle.rim_sha.specs.inside.Lanes.{lane}
-use Rattle.rim_sha.proofs.sha256.lanes.known_blocks.compress_sums.Given as goal
-
-abbrev pub invariant-turns : goal.invariant-turns
-invariant-turns g l = (j : ℕ) (b : List ℕ) → j < g.row.N → AreSums256 l.sums b → lane j l.v ≡ rounds (lane j l.state) (schedule b 48) (8 * l.turn)

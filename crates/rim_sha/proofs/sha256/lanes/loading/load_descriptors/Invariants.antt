@@ -1,8 +1,0 @@
-use Rattle.std.proofs.Common.{◌≡◌, ℕ, ◌*◌, ◌<◌, [], length, slice_index, slice_index_or, take, drop}
-use Rattle.sha2.specs.Sha256.{word_at}
-use Rattle.rim_sha.specs.inside.Lanes.{window}
-use Rattle.rim_sha.proofs.sha256.lanes.loading.load_descriptors.Given as goal
-
-abbrev pub invariant-words : goal.invariant-words
-invariant-words g l = (length l.w ≡ 16)
-    × ((j k : ℕ) → j < g.row.N → k < l.i → slice_index (window j l.w) k ≡ word_at (take 64 (drop l.at (slice_index_or l.descriptors j []))) (4 * k))

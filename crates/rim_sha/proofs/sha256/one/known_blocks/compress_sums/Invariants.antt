@@ -1,7 +1,0 @@
-use Rattle.std.proofs.Common.{◌≡◌, ℕ, List, ◌*◌}
-use Rattle.sha2.specs.Sha256.{rounds, schedule}
-use Rattle.rim_sha.specs.Sums.{AreSums256}
-use Rattle.rim_sha.proofs.sha256.one.known_blocks.compress_sums.Given as goal
-
-abbrev pub invariant-turns : goal.invariant-turns
-invariant-turns l = (b : List ℕ) → AreSums256 l.sums b → l.v ≡ rounds l.state (schedule b 48) (8 * l.turn)

@@ -1,8 +1,0 @@
-use Rattle.std.proofs.Common.{ℕ, bit_xor, ap, arith}
-use Rattle.std.specs.Int.{w32, rotate_right}
-use Rattle.rim_sha.proofs.Rotations.{rotated_two}
-use Rattle.rim_sha.proofs.sha256.one.rounds.big_sigma0.Goals as goal
-
-pub returns : goal.returns
-returns c = rw (c.rotate_right-3.ensures, c.rotate_right-2.ensures, c.rotate_right.ensures)
-    (ap (λ (y : ℕ). bit_xor y (rotate_right w32 c.args.x 22)) (rotated_two 32 c.args.x 2 11 (omega arith) (omega arith)))

@@ -1,5 +1,0 @@
-use Rattle.rim_sha.proofs.ChMaj.{maj_short}
-use Rattle.rim_sha.proofs.sha256.one.rounds.maj.Goals as goal
-
-pub returns : goal.returns
-returns c = maj_short c.args.x c.args.y c.args.z

@@ -1,9 +1,0 @@
--- tools/checks/widths.py makes this text from that for SHA-256.
-use Rattle.std.proofs.Common.{◌≡◌, ℕ, List, ◌*◌, ◌<◌}
-use Rattle.sha2.specs.Sha512.{rounds, schedule}
-use Rattle.rim_sha.specs.Sums.{AreSums512}
-use Rattle.rim_sha.specs.inside.Lanes.{lane}
-use Rattle.rim_sha.proofs.sha512.lanes.known_blocks.compress_sums.Given as goal
-
-abbrev pub invariant-turns : goal.invariant-turns
-invariant-turns g l = (j : ℕ) (b : List ℕ) → j < g.row.N → AreSums512 l.sums b → lane j l.v ≡ rounds (lane j l.state) (schedule b 64) (8 * l.turn)

@@ -1,9 +1,0 @@
--- tools/checks/widths.py makes this text from that for SHA-256.
-use Rattle.std.proofs.Common.{◌≡◌, ℕ, ◌*◌, ◌<◌, length, slice_index, take, drop}
-use Rattle.sha2.specs.Sha512.{word_at}
-use Rattle.rim_sha.specs.inside.Lanes.{message}
-use Rattle.rim_sha.proofs.sha512.lanes.loading.words_of.Given as goal
-
-abbrev pub invariant-lanes : goal.invariant-lanes
-invariant-lanes g l = (length l.words ≡ g.row.N)
-    × ((k : ℕ) → k < l.j → slice_index l.words k ≡ word_at (take 128 (drop l.at (message l.messages k))) (8 * l.i))

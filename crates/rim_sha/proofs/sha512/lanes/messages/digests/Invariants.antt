@@ -1,8 +1,0 @@
--- tools/checks/widths.py makes this text from that for SHA-256.
-use Rattle.std.proofs.Common.{◌≡◌, ℕ, ◌<◌, [], length, slice_index_or}
-use Rattle.sha2.specs.Sha512.{digest_bytes}
-use Rattle.rim_sha.specs.inside.Lanes.{lane}
-use Rattle.rim_sha.proofs.sha512.lanes.messages.digests.Given as goal
-
-abbrev pub invariant-lanes : goal.invariant-lanes
-invariant-lanes g l = (length l.out ≡ g.row.N) × ((k : ℕ) → k < l.j → slice_index_or l.out k [] ≡ digest_bytes (lane k l.hashes) 8)

@@ -1,8 +1,0 @@
--- tools/checks/widths.py makes this text from that for SHA-256.
-use Rattle.std.proofs.Common.{◌≡◌, ℕ, ◌<◌}
-use Rattle.sha2.specs.Sha512.{hash_after, initial_hash_512}
-use Rattle.rim_sha.specs.inside.Lanes.{lane, message}
-use Rattle.rim_sha.proofs.sha512.lanes.messages.final_hashes.Given as goal
-
-abbrev pub invariant-each : goal.invariant-each
-invariant-each g l = (j : ℕ) → j < g.row.N → lane j l.state ≡ hash_after initial_hash_512 (message l.messages j) l.i

@@ -1,7 +1,0 @@
--- tools/checks/widths.py makes this text from that for SHA-256.
-use Rattle.std.proofs.Common.{refl}
-use Rattle.rim_sha.proofs.sha512.lanes.rounds.round.Goals as goal
-
-pub returns : goal.returns
-returns g c j h =
-    rw (c.eight.ensures, c.add.ensures.1 j h, c.add-2.ensures.1 j h, c.temp1-temp1.ensures.1 j h, c.temp2-temp2.ensures.1 j h) refl

@@ -1,6 +1,0 @@
-use Rattle.std.proofs.Common.{bit_xor}
-use Rattle.rim_sha.proofs.LaneByLane.{both}
-use Rattle.rim_sha.proofs.sha512.sigmas.big_sigma0.Goals as goal
-
-pub returns : goal.returns
-returns g c = both bit_xor _ _ _ _ (both bit_xor _ _ _ _ c.rotated.ensures c.rotated-2.ensures) c.rotated-3.ensures

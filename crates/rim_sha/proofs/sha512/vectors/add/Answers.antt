@@ -1,7 +1,0 @@
--- tools/checks/widths.py makes this text from that for SHA-256.
-use Rattle.sha2.specs.Sha512.{add64}
-use Rattle.rim_sha.proofs.LaneByLane.{both, itself}
-use Rattle.rim_sha.proofs.sha512.vectors.add.Goals as goal
-
-pub returns : goal.returns
-returns g c = both add64 _ _ _ _ (itself c.args.x c.fits-x.0) (itself c.args.y c.fits-y.0)

@@ -1,0 +1,6 @@
+use Rattle.std.proofs.Common.{◌≡◌, ◌*◌, length, take}
+use Rattle.sha2.specs.Sha256.{digest_bytes}
+use Rattle.rim_sha256.proofs.words.digest.Given as goal
+
+abbrev pub invariant-words : goal.invariant-words
+invariant-words l = (length l.out ≡ 32) × (take (4 * l.i) l.out ≡ digest_bytes l.hash l.i)

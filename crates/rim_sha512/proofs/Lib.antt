@@ -1,0 +1,3 @@
+pub mod KnownBlocks
+pub mod MessageHashes
+pub mod DescriptorHashes

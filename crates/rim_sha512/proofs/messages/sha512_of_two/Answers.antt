@@ -1,0 +1,16 @@
+use Rattle.std.proofs.Common.{ℕ, List, refl, ap, ◌∙◌}
+use Rattle.sha2.specs.Sha512.{compress, digest_bytes, first_words, initial_hash_512, padding, schedule, sha512}
+use Rattle.rim_sha512.proofs.DescriptorHashes.{hash_of_two}
+use Rattle.rim_sha512.proofs.messages.sha512_of_two.Goals as goal
+
+pub returns : goal.returns
+unfolding sha512 first_words schedule
+returns c =
+    let m = c.args.head.now in
+    let n = c.args.tail.now in
+    let s1 = c.compress_sums.ensures m c.all_sums.ensures in
+    let s2 = c.compress_sums-2.ensures n c.all_sums-2.ensures in
+    let s3 = c.compress_sums-3.ensures (padding 256) refl in
+    c.digest.ensures ∙ ap (λ (h : List ℕ). digest_bytes h 8)
+    (s3 ∙ ap (λ (h : List ℕ). compress h (padding 256)) (s2 ∙ ap (λ (h : List ℕ). compress h n) s1)
+    ∙ hash_of_two initial_hash_512 m n c.requires.head c.requires.tail)

@@ -1,0 +1,5 @@
+use Rattle.sha_lanes.proofs.ChMaj.{maj_short}
+use Rattle.rim_sha512.proofs.rounds.maj.Goals as goal
+
+pub returns : goal.returns
+returns c = maj_short c.args.x c.args.y c.args.z
