@@ -189,7 +189,7 @@ def reading(known):
         holds = re.match(r"-- (.*?)(?:\. |\.?$)", " ".join(re.match(r"(?:-- .*\n)+", text).group(0).split("\n-- ")).strip())
         yield f"| `{crate}/specs/{place.replace('.', '/')}.antt` | {lines[crate, place]} | {holds.group(1)} |"
     whole = sum(lines.values())
-    edits = sum(count for file, count in lines.items() if file[0] == "fdt_tree" or file == ("ipa_layout", "DtbEdit"))
+    edits = sum(count for file, count in lines.items() if file[0] in ("fdt_header", "fdt_tree") or file == ("ipa_layout", "DtbEdit"))
     yield f"| all | {whole} | |"
     yield f"| all but the edits of a devicetree | {whole - edits} | for launches whose devicetree is placed as its file |"
 

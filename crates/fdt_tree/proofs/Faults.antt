@@ -1,7 +1,7 @@
 -- What is known of an error that may be a refusal of memory.
 use Rattle.std.proofs.Common.{◌≡◌, ℕ, ◌≤◌, ◌⊎◌, Result, Ok, Err, arith, inl, inr}
-use Rattle.fdt_tree.specs.declared.fault.FdtFault.{FdtFault}
-use Rattle.fdt_tree.specs.declared.fault.FdtFault.TheVariants.{NoMemory}
+use Rattle.fdt_header.specs.declared.fault.FdtFault.{FdtFault}
+use Rattle.fdt_header.specs.declared.fault.FdtFault.TheVariants.{NoMemory}
 use Rattle.fdt_tree.specs.inside.NameTables.{TooMuch}
 
 -- where something is found, want of memory is the only fault

@@ -6,14 +6,15 @@ use Rattle.std.specs.Int.{w32, from_be_bytes}
 use Rattle.std.proofs.lemmas.Bool.{ltb-false}
 use Rattle.std.proofs.lemmas.List.{length-drop, nil_from_length}
 use Rattle.refusal.proofs.AnswersInTurn.{bind-ok}
-use Rattle.fdt_tree.specs.declared.fault.FdtFault.{FdtFault}
-use Rattle.fdt_tree.specs.declared.fault.FdtFault.TheVariants.{BadToken, BadName, LateProperty, TooDeep}
+use Rattle.fdt_header.specs.declared.fault.FdtFault.{FdtFault}
+use Rattle.fdt_header.specs.declared.fault.FdtFault.TheVariants.{BadToken, BadName, LateProperty, TooDeep}
 use Rattle.fdt_tree.specs.declared.reading.place.Place.{Place}
 use Rattle.refusal.specs.Answer.{◌>>=◌}
 use Rattle.fdt_tree.specs.Devicetree.{Token, begin_node, property, end_node, nop, finish}
 use Rattle.fdt_tree.specs.Scanning.{after, number_at, padded_at, string_at, legal_at, begin_at, name_at, property_at, is_over, kind_at, token_at, joins, scan}
 use Rattle.fdt_tree.specs.FirstFault.{Leads}
-use Rattle.fdt_tree.proofs.SpellingOfToken.{unless, only_if, chosen, pair_is}
+use Rattle.fdt_header.proofs.Checks.{unless, only_if}
+use Rattle.fdt_tree.proofs.SpellingOfToken.{chosen, pair_is}
 
 -- ---- each token takes some bytes
 

@@ -11,8 +11,7 @@ pub mod SpellingOfScan
 pub mod SpellingOfToken
 -- so the tokens that are scanned are those that are spelled
 pub mod ScanIsSpelling
--- the header and the reservations are found where they are spelled, and nowhere else
-pub mod HeaderIsSpelled
+-- the reservations are found where they are spelled, and nowhere else
 pub mod ReservationsAreSpelled
 -- so the parts that are read are those that are spelled
 pub mod ReadIsSpelled

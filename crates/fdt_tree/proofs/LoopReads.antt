@@ -1,7 +1,7 @@
 -- Reading one thing after another into a list, as a loop does: what was read, and what is still read.
 use Rattle.std.proofs.Common.{◌≡◌, List, [], ◌++◌, Result, Ok, Err, sym, ap, ◌∙◌, append_assoc, refl}
 use Rattle.std.proofs.lemmas.List.{append-nil}
-use Rattle.fdt_tree.specs.declared.fault.FdtFault.{FdtFault}
+use Rattle.fdt_header.specs.declared.fault.FdtFault.{FdtFault}
 use Rattle.refusal.specs.Answer.{with_front}
 
 regroup : {A : Type 0} (front new : List A) (more : Result (List A) FdtFault) → with_front front (with_front new more) ≡ with_front (front ++ new) more

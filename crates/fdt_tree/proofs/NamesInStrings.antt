@@ -6,7 +6,7 @@ use Rattle.std.proofs.lemmas.Bool.{cases_lt, lt-ltb, le-ltb, cases_Bool}
 use Rattle.std.proofs.lemmas.Bool.Decides.{nat_tests}
 use Rattle.std.proofs.lemmas.List.{take_more, length-drop, length-take-le, get_or-drop}
 use Rattle.std.proofs.Math.Bool.{and-false}
-use Rattle.fdt_tree.specs.declared.fault.FdtFault.TheVariants.{BadName, BadString}
+use Rattle.fdt_header.specs.declared.fault.FdtFault.TheVariants.{BadName, BadString}
 use Rattle.refusal.specs.Answer.{◌>>=◌}
 use Rattle.fdt_tree.specs.Names.{is_name_character, all_name_characters, legal}
 use Rattle.fdt_tree.specs.inside.NameRuns.{name_run, name_runs, zero_end}

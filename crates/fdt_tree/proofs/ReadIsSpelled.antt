@@ -1,19 +1,19 @@
 -- What is read is what is spelled.
 use Rattle.std.proofs.Common.{◌≡◌, ℕ, List, length, Result, Ok, refl, sym, ap, ◌∙◌, arith}
 use Rattle.refusal.proofs.AnswersInTurn.{bind-ok}
-use Rattle.fdt_tree.specs.declared.fault.FdtFault.{FdtFault}
-use Rattle.fdt_tree.specs.declared.reading.header.Header.{Header}
+use Rattle.fdt_header.specs.declared.fault.FdtFault.{FdtFault}
+use Rattle.fdt_header.specs.declared.header.Header.{Header}
 use Rattle.fdt_tree.specs.declared.tree.Reservation.{Reservation}
 use Rattle.refusal.specs.Answer.{◌>>=◌}
 use Rattle.fdt_tree.specs.Devicetree.{Devicetree, Token, root_tokens}
-use Rattle.fdt_tree.specs.Blocks.{reserve_block, structure_block, strings_block, header_at}
+use Rattle.fdt_header.specs.Blocks.{reserve_block, structure_block, strings_block, header_at}
 use Rattle.fdt_tree.specs.Reservations.{reservations_at}
 use Rattle.fdt_tree.specs.Scanning.{structure_at}
 use Rattle.fdt_tree.specs.Reading.{Spells, Parts, parts_of, parts_at}
 use Rattle.fdt_tree.specs.Wholeness.{IsWhole}
 use Rattle.fdt_tree.proofs.SpellingOfScan.{IsBytes}
 use Rattle.fdt_tree.proofs.SpellingOfToken.{IsBytes-drop, IsBytes-take}
-use Rattle.fdt_tree.proofs.HeaderIsSpelled.{header_takes, header_again}
+use Rattle.fdt_header.proofs.HeaderIsSpelled.{header_takes, header_again}
 use Rattle.fdt_tree.proofs.ReservationsAreSpelled.{pairs_again, pairs_take, spelled_are}
 use Rattle.fdt_tree.proofs.ScanIsSpelling.{spelled_scans, scan_spells, same_root}
 

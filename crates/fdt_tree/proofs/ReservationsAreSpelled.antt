@@ -7,13 +7,14 @@ use Rattle.std.proofs.lemmas.Bool.Decides.{nat_tests}
 use Rattle.std.proofs.lemmas.List.{take_at, drop_at, take-append-drop, drop-drop, length-append, length-take, length-drop}
 use Rattle.std.proofs.lemmas.Nat.{be_bytes_8, from_be_bytes-to_be_bytes_8}
 use Rattle.refusal.proofs.AnswersInTurn.{bind-ok}
-use Rattle.fdt_tree.specs.declared.fault.FdtFault.{FdtFault}
-use Rattle.fdt_tree.specs.declared.fault.FdtFault.TheVariants.{BadReserve}
+use Rattle.fdt_header.specs.declared.fault.FdtFault.{FdtFault}
+use Rattle.fdt_header.specs.declared.fault.FdtFault.TheVariants.{BadReserve}
 use Rattle.fdt_tree.specs.declared.tree.Reservation.{Reservation}
 use Rattle.refusal.specs.Answer.{◌>>=◌, with_front}
 use Rattle.fdt_tree.specs.Reservations.{AreReservations, SpellsReservations, pair_text, pair_at, pairs_at, is_end}
 use Rattle.fdt_tree.proofs.SpellingOfScan.{IsBytes}
-use Rattle.fdt_tree.proofs.SpellingOfToken.{IsBytes-drop, IsBytes-take, unless}
+use Rattle.fdt_header.proofs.Checks.{unless}
+use Rattle.fdt_tree.proofs.SpellingOfToken.{IsBytes-drop, IsBytes-take}
 
 -- ---- the loop
 

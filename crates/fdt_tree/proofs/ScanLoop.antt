@@ -1,7 +1,7 @@
 -- Reading token after token, as the loop does.
 use Rattle.std.proofs.Common.{◌≡◌, ℕ, suc, ◌+◌, ◌-◌, ◌<◌, ◌≤◌, List, [], Result, Ok, Err, refl, sym, ap, ◌∙◌, arith}
-use Rattle.fdt_tree.specs.declared.fault.FdtFault.{FdtFault}
-use Rattle.fdt_tree.specs.declared.fault.FdtFault.TheVariants.{BadToken}
+use Rattle.fdt_header.specs.declared.fault.FdtFault.{FdtFault}
+use Rattle.fdt_header.specs.declared.fault.FdtFault.TheVariants.{BadToken}
 use Rattle.fdt_tree.specs.declared.reading.lexing.Token.{Token as Read}
 use Rattle.fdt_tree.specs.declared.reading.lexing.Token.TheVariants as variants
 use Rattle.fdt_tree.specs.inside.TokenViews.{as_token}

@@ -6,8 +6,8 @@ use Rattle.std.specs.Int.{w32, to_be_bytes, from_be_bytes}
 use Rattle.std.proofs.lemmas.Bool.{le-ltb, lt-ltb, ne_eqb, eqb-true, and_parts}
 use Rattle.std.proofs.lemmas.List.{take_at, drop_at, length-append, length-drop, nil_from_length}
 use Rattle.std.proofs.lemmas.Nat.{from_be_bytes-to_be_bytes_4}
-use Rattle.fdt_tree.specs.declared.fault.FdtFault.{FdtFault}
-use Rattle.fdt_tree.specs.declared.fault.FdtFault.TheVariants.{BadToken, BadString}
+use Rattle.fdt_header.specs.declared.fault.FdtFault.{FdtFault}
+use Rattle.fdt_header.specs.declared.fault.FdtFault.TheVariants.{BadToken, BadString}
 use Rattle.fdt_tree.specs.Devicetree.{PropertyData, Token, begin_node, property, end_node, nop, finish}
 use Rattle.fdt_tree.specs.declared.reading.place.Place.{Place}
 use Rattle.fdt_tree.specs.Scanning.{after, number_at, padded_at, until_zero, legal_at, string_at, name_at, begin_at, property_at, kind_at, token_at, scan}

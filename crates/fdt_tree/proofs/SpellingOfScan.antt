@@ -4,7 +4,7 @@ use Rattle.std.proofs.Common.{ap, subst, ◌∙◌, append_assoc, arith}
 use Rattle.std.specs.Int.{w32, to_be_bytes, from_be_bytes}
 use Rattle.std.proofs.lemmas.Bool.{ltb-false}
 use Rattle.refusal.proofs.AnswersInTurn.{bind-ok}
-use Rattle.fdt_tree.specs.declared.fault.FdtFault.TheVariants.{BadToken}
+use Rattle.fdt_header.specs.declared.fault.FdtFault.TheVariants.{BadToken}
 use Rattle.fdt_tree.specs.Devicetree.{Token, begin_node, property, end_node, nop, finish}
 use Rattle.fdt_tree.specs.declared.reading.place.Place.{Place}
 use Rattle.fdt_tree.specs.Scanning.{after, number_at, kind_at, token_at, joins, scan}

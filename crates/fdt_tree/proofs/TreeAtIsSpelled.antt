@@ -1,7 +1,7 @@
 -- The tree of tokens is the one whose tokens they are.
 use Rattle.std.proofs.Common.{◌≡◌, ℕ, List, [], ◌∷◌, ◌++◌, map, Result, Ok, Err, refl, ap, ◌∙◌, append_assoc, sym, subst}
 use Rattle.std.proofs.lemmas.List.{append-nil}
-use Rattle.fdt_tree.specs.declared.fault.FdtFault.{FdtFault}
+use Rattle.fdt_header.specs.declared.fault.FdtFault.{FdtFault}
 use Rattle.fdt_tree.specs.Devicetree.{Devicetree, PropertyData, Nodes, none, node, Token, begin_node, property, end_node, tokens, Root, root_tokens}
 use Rattle.refusal.specs.Answer.{◌>>=◌}
 use Rattle.fdt_tree.specs.Reading.{Spells, Parts, parts_of, parts_at}

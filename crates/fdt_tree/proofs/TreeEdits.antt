@@ -3,8 +3,8 @@ use Rattle.std.proofs.Common.{◌≡◌, ℕ, ◌+◌, ◌<◌, Bool, true, fals
 use Rattle.std.proofs.Common.{sym, ap, ◌∙◌, arith}
 use borrow.Author.Tests.{ltb-true}
 use Rattle.std.specs.Str.{bytes_eq}
-use Rattle.fdt_tree.specs.declared.fault.FdtFault.{FdtFault}
-use Rattle.fdt_tree.specs.declared.fault.FdtFault.TheVariants.{BadName, TooDeep}
+use Rattle.fdt_header.specs.declared.fault.FdtFault.{FdtFault}
+use Rattle.fdt_header.specs.declared.fault.FdtFault.TheVariants.{BadName, TooDeep}
 use Rattle.fdt_tree.specs.declared.tree.Reservation.{Reservation}
 use Rattle.fdt_tree.specs.declared.node.Node.{Node}
 use Rattle.fdt_tree.specs.Devicetree.{PropertyData, Nodes, none, node, Branch, Devicetree, branch_of_root, bare}

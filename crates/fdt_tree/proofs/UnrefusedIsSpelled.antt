@@ -6,17 +6,17 @@ use Rattle.std.specs.Result.{result_err}
 use Rattle.std.proofs.lemmas.Bool.{cases_lt, eqb-true}
 use Rattle.std.proofs.lemmas.List.{length-append, nil_from_length, get_or_past}
 use Rattle.refusal.proofs.AnswersInTurn.{bind-ok}
-use Rattle.fdt_tree.specs.declared.fault.FdtFault.{FdtFault}
+use Rattle.fdt_header.specs.declared.fault.FdtFault.{FdtFault}
 use Rattle.fdt_tree.specs.declared.reading.place.Place.{Place}
 use Rattle.fdt_tree.specs.Devicetree.{Devicetree, PropertyData, Nodes, none, node, Root, Token, begin_node, property, end_node, nop, finish, tokens}
 use Rattle.fdt_tree.specs.Devicetree.{root_tokens}
 use Rattle.fdt_tree.specs.Scanning.{start, scan}
 use Rattle.fdt_tree.specs.Reading.{Spells, Parts, parts_of, parts_at, refusal_of}
 use Rattle.refusal.specs.Answer.{◌>>=◌}
-use Rattle.fdt_tree.specs.Blocks.{reserve_block, structure_block, strings_block, header_at}
+use Rattle.fdt_header.specs.Blocks.{reserve_block, structure_block, strings_block, header_at}
 use Rattle.fdt_tree.specs.Reservations.{reservations_at}
 use Rattle.fdt_tree.specs.Grammar.{without_nops}
-use Rattle.fdt_tree.specs.declared.reading.header.Header.{Header}
+use Rattle.fdt_header.specs.declared.header.Header.{Header}
 use Rattle.fdt_tree.proofs.AcceptedTokens.{Accepts}
 use Rattle.fdt_tree.proofs.SpellingOfScan.{IsBytes, scan_takes}
 use Rattle.fdt_tree.proofs.SpellingOfToken.{IsBytes-drop, IsBytes-take, takes_tokens, takes_end}

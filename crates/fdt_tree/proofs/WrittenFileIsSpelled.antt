@@ -5,10 +5,10 @@ use Rattle.std.specs.declared.vec.Vec.{Vec}
 use Rattle.std.specs.Int.{w32, to_be_bytes, from_be_bytes}
 use Rattle.std.proofs.lemmas.List.{length-append, take_at, drop_at}
 use Rattle.std.proofs.lemmas.Nat.{from_be_bytes-to_be_bytes_4}
-use Rattle.fdt_tree.specs.declared.reading.header.Header.{Header}
+use Rattle.fdt_header.specs.declared.header.Header.{Header}
 use Rattle.fdt_tree.specs.declared.tree.Reservation.{Reservation}
 use Rattle.fdt_tree.specs.Devicetree.{Devicetree, root_tokens}
-use Rattle.fdt_tree.specs.Blocks.{HasHeader, header_of, reserve_block, structure_block, strings_block}
+use Rattle.fdt_header.specs.Blocks.{HasHeader, header_of, reserve_block, structure_block, strings_block}
 use Rattle.fdt_tree.specs.Reservations.{AreReservations, SpellsReservations, pair_text}
 use Rattle.fdt_tree.specs.Grammar.{SpellsRoot}
 use Rattle.fdt_tree.specs.Reading.{Spells}

@@ -1,7 +1,7 @@
 -- Which fault a structure block has: that of the token after the longest list of tokens without fault. The tokens are those
 -- of Devicetree Specification 0.4, section 5.4; which fault is reported is this project's choice.
 use Rattle.std.specs.Prelude.{◌≡◌, ◌≢◌, ℕ, List, [], ◌∷◌, Ok, Err}
-use Rattle.fdt_tree.specs.declared.fault.FdtFault.{FdtFault}
+use Rattle.fdt_header.specs.declared.fault.FdtFault.{FdtFault}
 use Rattle.fdt_tree.specs.declared.reading.place.Place.{Place}
 use Rattle.fdt_tree.specs.Devicetree.{Token, finish}
 use Rattle.fdt_tree.specs.Scanning.{start, after, token_at}

@@ -1,10 +1,8 @@
 pub mod Devicetree
 pub mod Names
-pub mod Faults
 pub mod NodeViews
 pub mod Scanning
 pub mod Grammar
-pub mod Blocks
 pub mod Reservations
 pub mod Wholeness
 pub mod Trees

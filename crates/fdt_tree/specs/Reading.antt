@@ -2,12 +2,12 @@
 -- refusals is this project's choice.
 use Rattle.std.specs.Prelude.{◌≡◌, ◌⊎◌, ℕ, List, Result, Ok, Option, Some}
 use Rattle.std.specs.Result.{result_err}
-use Rattle.fdt_tree.specs.declared.fault.FdtFault.{FdtFault}
-use Rattle.fdt_tree.specs.declared.fault.FdtFault.TheVariants.{NoMemory}
-use Rattle.fdt_tree.specs.declared.reading.header.Header.{Header}
+use Rattle.fdt_header.specs.declared.fault.FdtFault.{FdtFault}
+use Rattle.fdt_header.specs.declared.fault.FdtFault.TheVariants.{NoMemory}
+use Rattle.fdt_header.specs.declared.header.Header.{Header}
 use Rattle.fdt_tree.specs.declared.tree.Reservation.{Reservation}
 use Rattle.fdt_tree.specs.Devicetree.{Devicetree, Token, root_tokens}
-use Rattle.fdt_tree.specs.Blocks.{HasHeader, reserve_block, structure_block, strings_block, header_at}
+use Rattle.fdt_header.specs.Blocks.{HasHeader, reserve_block, structure_block, strings_block, header_at}
 use Rattle.fdt_tree.specs.Reservations.{SpellsReservations, reservations_at}
 use Rattle.fdt_tree.specs.Grammar.{SpellsRoot}
 use Rattle.fdt_tree.specs.Scanning.{structure_at}

@@ -1,7 +1,7 @@
 -- The tree that bytes spell, as a function of the bytes, so that other definitions can use it: Devicetree Specification 0.4,
 -- section 5.4. The law `tree_at_is_spelled` says that it is the tree of `Spells`.
 use Rattle.std.specs.Prelude.{ℕ, List, [], ◌∷◌, Result, Ok}
-use Rattle.fdt_tree.specs.declared.fault.FdtFault.{FdtFault}
+use Rattle.fdt_header.specs.declared.fault.FdtFault.{FdtFault}
 use Rattle.fdt_tree.specs.Devicetree.{PropertyData, Nodes, none, node, Token, begin_node, property, end_node, Root, Devicetree}
 use Rattle.fdt_tree.specs.Reading.{Parts, parts_at}
 use Rattle.refusal.specs.Answer.{◌>>=◌}

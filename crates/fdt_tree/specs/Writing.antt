@@ -3,12 +3,12 @@
 use Rattle.std.specs.Prelude.{ℕ, ◌+◌, List, [], ◌∷◌, ◌++◌, length, Bool, true, false, Result, Ok, Err, nat_lt, replicate, if◌then◌else◌}
 use Rattle.std.specs.Int.{w32, to_be_bytes}
 use Rattle.std.specs.Str.{bytes_eq}
-use Rattle.fdt_tree.specs.declared.fault.FdtFault.{FdtFault}
-use Rattle.fdt_tree.specs.declared.fault.FdtFault.TheVariants.{TooLarge}
+use Rattle.fdt_header.specs.declared.fault.FdtFault.{FdtFault}
+use Rattle.fdt_header.specs.declared.fault.FdtFault.TheVariants.{TooLarge}
 use Rattle.fdt_tree.specs.declared.tree.Reservation.{Reservation}
 use Rattle.fdt_tree.specs.Devicetree.{Devicetree, Token, begin_node, end_node, finish, nop, padding_of, property, root_tokens}
 use Rattle.fdt_tree.specs.Reservations.{pair_text}
-use Rattle.fdt_tree.specs.declared.reading.header.TheConstants.{HEADER_SIZE, LAST_COMP_VERSION, MAGIC, SIZE_LIMIT, VERSION}
+use Rattle.fdt_header.specs.declared.header.TheConstants.{HEADER_SIZE, LAST_COMP_VERSION, MAGIC, SIZE_LIMIT, VERSION}
 use Rattle.fdt_tree.specs.declared.reading.lexing.TheConstants.{FDT_BEGIN_NODE, FDT_END, FDT_END_NODE, FDT_NOP, FDT_PROP}
 
 -- ---- the strings: each name once, in the order of first use

@@ -12,11 +12,11 @@ ghost use Rattle.fdt_tree.specs.inside.EditViews.{names_in, names_len};
 
 pub mod memory;
 
-use crate::fault::FdtFault;
 use crate::lookup::slash_in;
 use crate::node::{Name, Node, Property};
 use crate::reading::lexing::{DEPTH_LIMIT, is_legal};
 use crate::reading::structure::new_node;
+use fdt_header::FdtFault;
 use std::alloc::{AllocError, Global};
 
 fn property_index(strings: &[u8], properties: &[Property], name: &[u8]) -> Option<usize>

@@ -1,7 +1,7 @@
 //! Laws of the flattened format. Each law is the contract of an empty function, so that it is proved.
 
 ghost use Rattle.std.specs.Prelude.{◌≡◌, ◌<◌, ◌≤◌, ◌^◌, ◌++◌, ◌↔◌, ℕ, List, All, None, Ok, Err, length};
-ghost use Rattle.fdt_tree.specs.declared.fault.FdtFault.{FdtFault};
+ghost use Rattle.fdt_header.specs.declared.fault.FdtFault.{FdtFault};
 ghost use Rattle.fdt_tree.specs.Devicetree.{Devicetree};
 ghost use Rattle.fdt_tree.specs.Scanning.{structure_at};
 ghost use Rattle.fdt_tree.specs.FirstFault.{IsFirstFault};
@@ -9,7 +9,7 @@ ghost use Rattle.fdt_tree.specs.Reading.{Spells, refusal_of};
 ghost use Rattle.fdt_tree.specs.TreeAt.{tree_at};
 ghost use Rattle.fdt_tree.specs.Wholeness.{IsWhole};
 ghost use Rattle.fdt_tree.specs.Writing.{written};
-ghost use Rattle.fdt_tree.specs.declared.reading.header.TheConstants.{SIZE_LIMIT};
+ghost use Rattle.fdt_header.specs.declared.header.TheConstants.{SIZE_LIMIT};
 
 /// The same bytes spell at most one devicetree.
 pub fn one_tree()

@@ -2,7 +2,6 @@
 #![tactic(auto)]
 
 mod edits;
-mod fault;
 mod laws;
 mod lookup;
 mod node;
@@ -10,11 +9,10 @@ mod reading;
 mod tree;
 mod writing;
 
-pub use crate::fault::FdtFault;
 pub use crate::laws::{
     first_fault, one_tree, refused_or_spelled, tree_at_is_spelled, written_is_spelled,
 };
 pub use crate::node::{Name, Node, Property};
-pub use crate::reading::header::SIZE_LIMIT;
 pub use crate::reading::read;
 pub use crate::tree::{Reservation, Tree};
+pub use fdt_header::{FdtFault, SIZE_LIMIT};

@@ -9,19 +9,17 @@ ghost use Rattle.fdt_tree.specs.Trees.{devicetree_of};
 ghost use Rattle.fdt_tree.specs.Reading.{Spells, parts_of, parts_at, refusal_of, IsRefusal};
 ghost use Rattle.fdt_tree.specs.TreeAt.{tree_at};
 
-pub mod header;
 pub mod lexing;
 pub mod place;
 pub mod reservations;
 pub mod strings;
 pub mod structure;
 
-use crate::fault::FdtFault;
-use crate::reading::header::header_in;
 use crate::reading::reservations::reservations_in;
 use crate::reading::strings::Strings;
 use crate::reading::structure::root_in;
 use crate::tree::{Contents, Tree};
+use fdt_header::{FdtFault, header_in};
 use std::alloc::Global;
 
 #[tactic(auto, unfolding(crate::specs::Reading::parts_at))]

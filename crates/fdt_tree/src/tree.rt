@@ -3,14 +3,14 @@
 ghost use Rattle.std.specs.Prelude.{◌≡◌, []};
 ghost use Rattle.fdt_tree.specs.NodeViews.{branch};
 ghost use Rattle.fdt_tree.specs.Wholeness.{IsWhole, IsWhole-prop, tree_in};
-ghost use Rattle.fdt_tree.specs.declared.reading.header.TheConstants.{SIZE_LIMIT};
+ghost use Rattle.fdt_header.specs.declared.header.TheConstants.{SIZE_LIMIT};
 
 use crate::edits::memory::{put_memory, reg_of};
 use crate::edits::{check_names, names_on, put_below};
-use crate::fault::FdtFault;
 use crate::lookup::{node_at, value_of};
 use crate::node::Node;
 use crate::writing::written;
+use fdt_header::FdtFault;
 use std::alloc::Global;
 
 /// A range of memory that the operating system leaves alone: its address and its size in bytes.

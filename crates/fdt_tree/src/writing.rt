@@ -10,17 +10,16 @@ ghost use Rattle.fdt_tree.specs.inside.NameTables.{HasNames, TooMuch};
 ghost use Rattle.fdt_tree.specs.Wholeness.{IsWhole, tree_in};
 ghost use Rattle.fdt_tree.specs.Reading.{Spells};
 ghost use Rattle.fdt_tree.specs.inside.OutputViews.{AreLengths, HasTokens, size_of, tokens_of_properties, tokens_of_nodes};
-ghost use Rattle.fdt_tree.specs.declared.reading.header.TheConstants.{HEADER_SIZE, SIZE_LIMIT};
+ghost use Rattle.fdt_header.specs.declared.header.TheConstants.{HEADER_SIZE, SIZE_LIMIT};
 ghost use Rattle.fdt_tree.specs.declared.reading.lexing.TheConstants.{FDT_END};
 
 pub mod names;
 
-use crate::fault::FdtFault;
 use crate::node::{Node, Property};
-use crate::reading::header::{HEADER_SIZE, LAST_COMP_VERSION, MAGIC, SIZE_LIMIT, VERSION};
 use crate::reading::lexing::{FDT_BEGIN_NODE, FDT_END, FDT_END_NODE, FDT_PROP};
 use crate::tree::{Contents, Reservation};
 use crate::writing::names::NameTable;
+use fdt_header::{FdtFault, HEADER_SIZE, LAST_COMP_VERSION, MAGIC, SIZE_LIMIT, VERSION};
 use std::alloc::{AllocError, Global};
 
 /// What is written so far: the structure block, and the names in it.

@@ -1,7 +1,7 @@
 -- One step after another: the first that fails decides, and where it does not fail the next one does.
 use Rattle.std.proofs.Common.{◌≡◌, ◌⊎◌, Result, Ok, Err, inl, inr, sym, ap, subst}
-use Rattle.fdt_tree.specs.declared.fault.FdtFault.{FdtFault}
-use Rattle.fdt_tree.specs.declared.fault.FdtFault.TheVariants.{NoMemory}
+use Rattle.fdt_header.specs.declared.fault.FdtFault.{FdtFault}
+use Rattle.fdt_header.specs.declared.fault.FdtFault.TheVariants.{NoMemory}
 use Rattle.refusal.specs.Answer.{◌>>=◌, Answers}
 
 -- an error of what is to give this

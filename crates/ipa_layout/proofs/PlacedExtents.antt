@@ -12,7 +12,7 @@ use Rattle.refusal.specs.Checks.{Check, unless_refused}
 use Rattle.arm64_image.specs.ImageHeader.{read_of, load_offset_of, extent_of}
 use Rattle.arm64_image.specs.declared.Header.{Header}
 use Rattle.arm64_image.specs.declared.ImageFault.{ImageFault}
-use Rattle.fdt_tree.specs.declared.fault.FdtFault.{FdtFault}
+use Rattle.fdt_header.specs.declared.fault.FdtFault.{FdtFault}
 use Rattle.rim_launch.specs.declared.item.Item.{Item}
 use Rattle.rim_launch.specs.declared.item.Region.{Region}
 use Rattle.ipa_layout.specs.declared.extent.WantedExtent.{WantedExtent}

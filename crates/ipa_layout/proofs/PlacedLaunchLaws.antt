@@ -10,7 +10,7 @@ use Rattle.std.proofs.lemmas.List.{length-map}
 use Rattle.std.proofs.lemmas.List.FromFn.{length-enumerate_from}
 use Rattle.refusal.proofs.AnswersInTurn.{bind-ok}
 use Rattle.refusal.specs.Answer.{◌>>=◌}
-use Rattle.fdt_tree.specs.declared.fault.FdtFault.{FdtFault}
+use Rattle.fdt_header.specs.declared.fault.FdtFault.{FdtFault}
 use Rattle.rim_launch.specs.declared.item.Item.{Item}
 use Rattle.ipa_layout.specs.declared.extent.Extent.{Extent}
 use Rattle.ipa_layout.specs.declared.placed.PlacedItem.{PlacedItem}

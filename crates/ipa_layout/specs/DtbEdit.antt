@@ -3,7 +3,7 @@
 -- the edits is this project's choice.
 use Rattle.std.specs.Prelude.{ℕ, ◌-◌, List, [], ◌∷◌, ◌++◌, Option, Some, None, Result, Ok, codes}
 use Rattle.std.specs.Int.{w64, to_be_bytes}
-use Rattle.fdt_tree.specs.declared.fault.FdtFault.{FdtFault}
+use Rattle.fdt_header.specs.declared.fault.FdtFault.{FdtFault}
 use Rattle.fdt_tree.specs.Devicetree.{Devicetree}
 use Rattle.fdt_tree.specs.TreeAt.{tree_at}
 use Rattle.fdt_tree.specs.Edits.{set_at}

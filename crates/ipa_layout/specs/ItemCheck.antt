@@ -3,7 +3,7 @@
 -- is a multiple of KERNEL_ALIGNMENT, 2 MiB: "Call the kernel image". The rest is this project's choice.
 use Rattle.std.specs.Prelude.{ℕ, ◌+◌, ◌-◌, ◌%◌, ◌^◌, List, [], ◌∷◌, length, Bool, Option, None, is_some, unwrap_or, Result, Ok, Err, not, ◌&&◌, ◌||◌, ◌==◌, nat_lt, nat_le, if◌then◌else◌}
 use Rattle.refusal.specs.Checks.{Check, unless_refused}
-use Rattle.fdt_tree.specs.declared.reading.header.TheConstants.{SIZE_LIMIT}
+use Rattle.fdt_header.specs.declared.header.TheConstants.{SIZE_LIMIT}
 use Rattle.rim_launch.specs.declared.item.Item.{Item}
 use Rattle.rim_launch.specs.declared.item.Region.{Region}
 use Rattle.ipa_layout.specs.declared.extent.WantedExtent.{WantedExtent}

@@ -4,7 +4,7 @@ use Rattle.std.specs.Prelude.{◌≡◌, ℕ, ◌+◌, List, [], ◌∷◌, leng
 use Rattle.std.specs.List.{find, position_from, slice_get, enumerate_from, zip}
 use Rattle.std.specs.Option.{option_and_then}
 use Rattle.std.specs.Result.{result_map_both, result_unwrap_or}
-use Rattle.fdt_tree.specs.declared.fault.FdtFault.{FdtFault}
+use Rattle.fdt_header.specs.declared.fault.FdtFault.{FdtFault}
 use Rattle.rim_launch.specs.declared.item.ItemKind.{ItemKind}
 use Rattle.rim_launch.specs.declared.item.ItemKind.TheVariants.{Dtb}
 use Rattle.rim_launch.specs.declared.item.Item.{Item}

@@ -1,5 +1,5 @@
 -- The fault that each reason is one of. This project's choice.
-use Rattle.fdt_tree.specs.declared.fault.FdtFault.TheVariants.{TooLarge}
+use Rattle.fdt_header.specs.declared.fault.FdtFault.TheVariants.{TooLarge}
 use Rattle.ipa_layout.specs.declared.fault.LayoutFault.{LayoutFault}
 use Rattle.ipa_layout.specs.declared.fault.LayoutFault.TheVariants as fault
 use Rattle.ipa_layout.specs.declared.reason.ItemReason.{ItemReason}

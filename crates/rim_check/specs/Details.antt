@@ -24,7 +24,7 @@ use Rattle.rim_accepted.specs.declared.reason.LaunchReason.TheVariants as launch
 use Rattle.rim_desc.specs.declared.page.TheConstants.{PAGE_SIZE}
 use Rattle.rim_desc.specs.declared.rec.TheConstants.{REC_LIMIT}
 use Rattle.rtt_plan.specs.declared.counting.TheConstants.{ENTRY_LIMIT}
-use Rattle.fdt_tree.specs.declared.reading.header.TheConstants.{SIZE_LIMIT}
+use Rattle.fdt_header.specs.declared.header.TheConstants.{SIZE_LIMIT}
 use Rattle.ipa_layout.specs.declared.item_check.TheConstants.{PAGE_LIMIT}
 
 -- a number in hexadecimal digits

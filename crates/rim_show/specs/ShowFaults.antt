@@ -3,9 +3,9 @@ use Rattle.std.specs.Prelude.{ℕ, List, Result, Ok, Err, codes}
 use Rattle.refusal.specs.declared.memory.NoMemory.{NoMemory}
 use Rattle.arm64_image.specs.declared.ImageFault.{ImageFault}
 use Rattle.arm64_image.specs.declared.ImageFault.TheVariants.{Short, BadMagic}
-use Rattle.fdt_tree.specs.Faults.{own_fault}
-use Rattle.fdt_tree.specs.declared.fault.FdtFault.{FdtFault}
-use Rattle.fdt_tree.specs.declared.fault.FdtFault.TheVariants as fdt
+use Rattle.fdt_header.specs.Faults.{own_fault}
+use Rattle.fdt_header.specs.declared.fault.FdtFault.{FdtFault}
+use Rattle.fdt_header.specs.declared.fault.FdtFault.TheVariants as fdt
 use Rattle.rim_show.specs.declared.fault.ShowFault.{ShowFault}
 use Rattle.rim_show.specs.declared.fault.ShowFault.TheVariants as show
 

@@ -3,12 +3,12 @@ use Rattle.std.specs.Prelude.{◌≡◌, ◌⊎◌, ℕ, ◌<◌, List, take, dr
 use Rattle.std.specs.Ordering.{nat_cmp}
 use Rattle.std.specs.Cmp.Lexicographic.{slice_cmp}
 use Rattle.std.specs.BTreeMap.{get_by}
-use Rattle.fdt_tree.specs.declared.fault.FdtFault.{FdtFault}
-use Rattle.fdt_tree.specs.declared.fault.FdtFault.TheVariants.{NoMemory, TooLarge}
+use Rattle.fdt_header.specs.declared.fault.FdtFault.{FdtFault}
+use Rattle.fdt_header.specs.declared.fault.FdtFault.TheVariants.{NoMemory, TooLarge}
 use Rattle.fdt_tree.specs.declared.writing.names.NameTable.{NameTable}
 use Rattle.fdt_tree.specs.declared.writing.names.KnownRange.{KnownRange}
 use Rattle.fdt_tree.specs.Writing.{is_among, strings_text, offset_in}
-use Rattle.fdt_tree.specs.declared.reading.header.TheConstants.{SIZE_LIMIT}
+use Rattle.fdt_header.specs.declared.header.TheConstants.{SIZE_LIMIT}
 
 -- the offset of a name, if it is among the names
 abbrev pub place_in : List (List ℕ) → List ℕ → Option ℕ

@@ -8,7 +8,7 @@ use Rattle.fdt_tree.specs.Devicetree.{Token, property, tokens, joined}
 use Rattle.fdt_tree.specs.NodeViews.{property_data, branches}
 use Rattle.fdt_tree.specs.Writing.{names_after, text_after, strings_text}
 use Rattle.fdt_tree.specs.inside.NameTables.{HasNames}
-use Rattle.fdt_tree.specs.declared.reading.header.TheConstants.{HEADER_SIZE, SIZE_LIMIT}
+use Rattle.fdt_header.specs.declared.header.TheConstants.{HEADER_SIZE, SIZE_LIMIT}
 
 -- the tokens were appended, and the table has their names too
 pub record HasTokens (strings : List ℕ) (old new : Output) (names : List (List ℕ)) (ts : List Token) : Type 0 where

@@ -9,10 +9,10 @@ ghost use Rattle.fdt_tree.specs.Memory.{cells_or, cells_said, in_cells, reg_valu
 ghost use Rattle.fdt_tree.specs.inside.MemoryViews.{cells_text};
 
 use crate::edits::put_below;
-use crate::fault::FdtFault;
 use crate::lookup::value_of;
 use crate::node::Node;
 use crate::reading::structure::new_node;
+use fdt_header::FdtFault;
 use std::alloc::{AllocError, Global};
 
 /// How many cells the value of a property asks for: one or two.

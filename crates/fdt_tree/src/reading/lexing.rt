@@ -7,9 +7,9 @@ ghost use Rattle.refusal.specs.Answer.{Matches};
 ghost use Rattle.fdt_tree.specs.inside.TokenViews.{as_token, FitsPlace};
 ghost use Rattle.fdt_tree.specs.Scanning.{number_at, padded_at, string_at, until_zero, begin_at, property_at, kind_at, token_at};
 
-use crate::fault::FdtFault;
 use crate::reading::place::Place;
 use crate::reading::strings::{Strings, is_name_character};
+use fdt_header::FdtFault;
 
 /// The most nodes from the root to a node, both counted: 64. This project's choice.
 pub const DEPTH_LIMIT: usize = 64;

@@ -5,8 +5,8 @@ ghost use Rattle.std.specs.Int.{w64, from_be_bytes};
 ghost use Rattle.refusal.specs.Answer.{Answers, Matches};
 ghost use Rattle.fdt_tree.specs.Reservations.{pair_at, is_end, reservations_at};
 
-use crate::fault::FdtFault;
 use crate::tree::Reservation;
+use fdt_header::FdtFault;
 use std::alloc::Global;
 
 fn double_word(b: &[u8]) -> u64

@@ -6,7 +6,7 @@ ghost use Rattle.fdt_tree.specs.inside.NameRuns.{name_runs, zero_end};
 ghost use Rattle.fdt_tree.specs.Scanning.{name_at};
 ghost use Rattle.refusal.specs.Answer.{Matches};
 
-use crate::fault::FdtFault;
+use fdt_header::FdtFault;
 use std::alloc::{AllocError, Global};
 
 /// A copy of the strings block. Tens of thousands of properties may share its bytes, as the ends of one

@@ -8,11 +8,11 @@ ghost use Rattle.fdt_tree.specs.inside.TokenViews.{as_token, FitsPlace};
 ghost use Rattle.fdt_tree.specs.Scanning.{structure_at, start, after};
 ghost use Rattle.fdt_tree.specs.inside.OpenNodes.{so_far, place_of, added, with_property, with_child};
 
-use crate::fault::FdtFault;
 use crate::node::{Name, Node, Property};
 use crate::reading::lexing::{Token, token_of};
 use crate::reading::place::Place;
 use crate::reading::strings::Strings;
+use fdt_header::FdtFault;
 use std::alloc::{AllocError, Global};
 
 /// The nodes that are open: the innermost, and those around it. Around the root is an empty node;

@@ -5,9 +5,8 @@ ghost use Rattle.fdt_tree.specs.Writing.{noted, strings_text, offset_in};
 ghost use Rattle.fdt_tree.specs.NodeViews.{name_of};
 ghost use Rattle.fdt_tree.specs.inside.NameTables.{HasNames, TooMuch, place_in};
 
-use crate::fault::FdtFault;
 use crate::node::{Name, range_of};
-use crate::reading::header::SIZE_LIMIT;
+use fdt_header::{FdtFault, SIZE_LIMIT};
 use std::alloc::{AllocError, Global};
 use std::collections::BTreeMap;
 

@@ -4,8 +4,8 @@ use Rattle.std.specs.Global.{Global}
 use Rattle.std.specs.declared.vec.Vec.{Vec}
 use Rattle.refusal.specs.Answer.{◌>>=◌}
 use Rattle.refusal.specs.declared.memory.NoMemory.{NoMemory}
-use Rattle.fdt_tree.specs.declared.fault.FdtFault.{FdtFault}
-use Rattle.fdt_tree.specs.Faults.{own_fault}
+use Rattle.fdt_header.specs.declared.fault.FdtFault.{FdtFault}
+use Rattle.fdt_header.specs.Faults.{own_fault}
 use Rattle.ipa_layout.specs.declared.dtb.Dtb.{Dtb}
 use Rattle.ipa_layout.specs.declared.dtb.Dtb.TheVariants as dtb
 

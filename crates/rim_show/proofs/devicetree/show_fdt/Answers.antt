@@ -2,8 +2,8 @@ use Rattle.std.proofs.Common.{◌≡◌, ℕ, List, inl, inr}
 use Rattle.std.specs.Prelude.{Result, Ok, Err, IfOk, IfErr}
 use Rattle.std.specs.Result.{IsErrAnd}
 use Rattle.fdt_tree.specs.Reading.{IsRefusal, refusal_of}
-use Rattle.fdt_tree.specs.declared.fault.FdtFault.{FdtFault}
-use Rattle.fdt_tree.specs.declared.fault.FdtFault.TheVariants as fdt
+use Rattle.fdt_header.specs.declared.fault.FdtFault.{FdtFault}
+use Rattle.fdt_header.specs.declared.fault.FdtFault.TheVariants as fdt
 use Rattle.rim_show.specs.ShownDevicetree.{IsDevicetreeFault}
 use Rattle.rim_show.specs.ShowFaults.{shown_fault}
 use Rattle.rim_show.specs.declared.fault.ShowFault.{ShowFault}

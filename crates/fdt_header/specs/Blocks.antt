@@ -2,10 +2,10 @@
 -- sections 5.2 and 5.6. Each number is big endian.
 use Rattle.std.specs.Prelude.{◌≡◌, ℕ, ◌+◌, ◌%◌, ◌≤◌, List, length, take, drop, Bool, Result, Ok, Err, nat_lt, nat_le, ◌==◌, ◌&&◌, if◌then◌else◌}
 use Rattle.std.specs.Int.{w32, from_be_bytes}
-use Rattle.fdt_tree.specs.declared.fault.FdtFault.{FdtFault}
-use Rattle.fdt_tree.specs.declared.fault.FdtFault.TheVariants.{Short, BadMagic, BadVersion, TooLarge, BadBlock}
-use Rattle.fdt_tree.specs.declared.reading.header.Header.{Header}
-use Rattle.fdt_tree.specs.declared.reading.header.TheConstants.{HEADER_SIZE, MAGIC, SIZE_LIMIT, VERSION}
+use Rattle.fdt_header.specs.declared.fault.FdtFault.{FdtFault}
+use Rattle.fdt_header.specs.declared.fault.FdtFault.TheVariants.{Short, BadMagic, BadVersion, TooLarge, BadBlock}
+use Rattle.fdt_header.specs.declared.header.Header.{Header}
+use Rattle.fdt_header.specs.declared.header.TheConstants.{HEADER_SIZE, MAGIC, SIZE_LIMIT, VERSION}
 
 -- the number that begins at this byte
 abbrev pub word_at : ℕ → List ℕ → ℕ

@@ -1,9 +1,9 @@
 use Rattle.std.proofs.Common.{◌^◌, ◌≡◌, ℕ, ◌≤◌, ltb, cond, List, length, Ok, Err, refl, sym, arith, ◌∙◌}
 use Rattle.std.proofs.lemmas.Bool.{lt-ltb, le-ltb, eq-eqb}
-use Rattle.fdt_tree.specs.declared.fault.FdtFault.TheVariants.{BadVersion, TooLarge, BadBlock}
-use Rattle.fdt_tree.specs.declared.reading.header.Header.{Header}
-use Rattle.fdt_tree.specs.Blocks.{word_at, header_of, blocks_fit, is_known_version, header_at}
-use Rattle.fdt_tree.proofs.reading.header.header_in.Goals as goal
+use Rattle.fdt_header.specs.declared.fault.FdtFault.TheVariants.{BadVersion, TooLarge, BadBlock}
+use Rattle.fdt_header.specs.declared.header.Header.{Header}
+use Rattle.fdt_header.specs.Blocks.{word_at, header_of, blocks_fit, is_known_version, header_at}
+use Rattle.fdt_header.proofs.header.header_in.Goals as goal
 
 -- the checks after that of the magic number
 behind_magic : (bytes : List ℕ) (h : Header) → 40 ≤ length bytes → word_at 0 bytes ≡ 0xd00dfeed → h ≡ header_of bytes

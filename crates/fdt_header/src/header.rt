@@ -1,8 +1,8 @@
 //! Reading the header of a flattened devicetree.
 
 ghost use Rattle.std.specs.Prelude.{◌≡◌, ◌+◌, ◌≤◌, length, nat_le, IfOk};
-ghost use Rattle.fdt_tree.specs.Blocks.{BlocksFit, blocks_fit, header_at, header_of, is_known_version, reserve_block, strings_block, structure_block, word_at};
-ghost use Rattle.fdt_tree.specs.declared.reading.header.TheConstants.{HEADER_SIZE};
+ghost use Rattle.fdt_header.specs.Blocks.{BlocksFit, blocks_fit, header_at, header_of, is_known_version, reserve_block, strings_block, structure_block, word_at};
+ghost use Rattle.fdt_header.specs.declared.header.TheConstants.{HEADER_SIZE};
 
 use crate::fault::FdtFault;
 

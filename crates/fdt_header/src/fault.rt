@@ -1,7 +1,7 @@
 //! Why a flattened devicetree is refused.
 
 ghost use Rattle.std.specs.Prelude.{◌≡◌};
-ghost use Rattle.fdt_tree.specs.declared.fault.FdtFault.TheVariants.{NoMemory};
+ghost use Rattle.fdt_header.specs.declared.fault.FdtFault.TheVariants.{NoMemory};
 
 use refusal::NoMemory;
 use std::alloc::{AllocError, AllocFailed};
@@ -39,7 +39,7 @@ pub enum FdtFault {
 
 impl FdtFault {
     ghost use Rattle.std.specs.Prelude.{◌≡◌};
-    ghost use Rattle.fdt_tree.specs.Faults.{own_fault};
+    ghost use Rattle.fdt_header.specs.Faults.{own_fault};
 
     /// The devicetree's own fault; or `NoMemory`, where memory was refused. A caller that reports the two
     /// in different ways keeps them apart by this.

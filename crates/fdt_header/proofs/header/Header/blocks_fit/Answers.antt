@@ -1,5 +1,5 @@
 use Rattle.std.proofs.Common.{rules}
-use Rattle.fdt_tree.proofs.reading.header.Header.blocks_fit.Goals as goal
+use Rattle.fdt_header.proofs.header.Header.blocks_fit.Goals as goal
 
 pub returns-then-holds : goal.returns-then-holds
 returns-then-holds c = search rules

@@ -1,11 +1,11 @@
 -- A header is found where it is spelled, and nowhere else.
 use Rattle.std.proofs.Common.{◌^◌, ◌≡◌, ℕ, ◌+◌, ◌%◌, ◌≤◌, true, false, ltb, leb, eqb, List, length, Result, Ok, refl, sym, ap, subst, ◌∙◌}
 use Rattle.std.proofs.lemmas.Bool.{leb-true, ltb-false, le-ltb, le-leb, eqb-true, eq-eqb, and_parts}
-use Rattle.fdt_tree.specs.declared.fault.FdtFault.{FdtFault}
-use Rattle.fdt_tree.specs.declared.fault.FdtFault.TheVariants.{Short, BadMagic, BadVersion, TooLarge, BadBlock}
-use Rattle.fdt_tree.specs.declared.reading.header.Header.{Header}
-use Rattle.fdt_tree.specs.Blocks.{BlocksFit, HasHeader, word_at, header_of, blocks_fit, is_known_version, header_at}
-use Rattle.fdt_tree.proofs.SpellingOfToken.{unless, only_if}
+use Rattle.fdt_header.specs.declared.fault.FdtFault.{FdtFault}
+use Rattle.fdt_header.specs.declared.fault.FdtFault.TheVariants.{Short, BadMagic, BadVersion, TooLarge, BadBlock}
+use Rattle.fdt_header.specs.declared.header.Header.{Header}
+use Rattle.fdt_header.specs.Blocks.{BlocksFit, HasHeader, word_at, header_of, blocks_fit, is_known_version, header_at}
+use Rattle.fdt_header.proofs.Checks.{unless, only_if}
 
 -- what the test of the blocks means
 pub blocks_take : (h : Header) (len : ℕ) → blocks_fit h len ≡ true → BlocksFit h len
