@@ -23,7 +23,7 @@ sys.path.insert(0, str(TOP / "tools" / "package"))
 import command_table  # noqa: E402, the path is set above
 
 CRATES = TOP / "crates"
-FAULTS = ["rim_cli/src/fault.rt", "rim_manifest/src/fault.rt", "rim_pages/src/fault.rt", "rim_accepted/src/audit_fault.rt",
+FAULTS = ["rim_files/src/fault.rt", "rim_manifest/src/fault.rt", "rim_pages/src/fault.rt", "rim_accepted/src/audit_fault.rt",
           "rim_show/src/fault.rt", "rim_replay/src/fault.rt"]
 DEFINITION = CRATES / "rim_words/src/definition.rt"
 # The arguments of a subcommand, where the command line is defined: operands by the names that usage texts show, and options.

@@ -150,7 +150,7 @@ BODIES = [
     ),
     (
         "interruptions are counted in all and not in a row",
-        "rim_cli/src/patient.rt",
+        "rim_files/src/patient.rt",
         [("                self.interruptions = 0;\n                answer", "                answer")],
         "rim_tests::faults",
     ),

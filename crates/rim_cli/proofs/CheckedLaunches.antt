@@ -6,7 +6,7 @@ use Rattle.rim_manifest.specs.Launches.{ReleaseData}
 use Rattle.rim_check.specs.declared.found.LaunchCheck.{LaunchCheck}
 use Rattle.rim_check.specs.declared.found.ReleaseFault.{ReleaseFault}
 use Rattle.rim_cli.specs.Done.{IsReleaseCheck, check_status}
-use Rattle.rim_cli.specs.Files.{AreRead, Known}
+use Rattle.rim_files.specs.Files.{AreRead, Known}
 use Rattle.rim_cli.specs.declared.checking.Checked.{Checked}
 use Rattle.rim_cli.specs.inside.Found.{findings_of}
 

@@ -5,14 +5,14 @@ use Rattle.std.proofs.lemmas.List.{nil_from_length}
 use Rattle.std.proofs.lemmas.Option.{same_Some}
 use Rattle.shown_text.specs.declared.remark.Remark.{Remark}
 use Rattle.shown_text.specs.Lines.{AddsLine, Saying, SayInTurn, file_said}
-use Rattle.rim_cli.specs.Files.{AreRead, IfFile, IsFileFault, IsRead, Known}
-use Rattle.rim_cli.specs.Status.{word_of}
+use Rattle.rim_files.specs.Files.{AreRead, IfFile, IsFileFault, IsRead, Known}
+use Rattle.rim_files.specs.Status.{word_of}
 use Rattle.rim_cli.specs.Unread.{AreUnread, IsUnread}
 use Rattle.rim_cli.specs.inside.Found.{AreFound}
-use Rattle.rim_cli.specs.declared.fault.Fault.{Fault}
-use Rattle.rim_cli.specs.declared.fault.Fault.TheVariants.{Manifest, NoSuchLaunch, Start, Refused, NoDevicetree, Show, FileUnreadable, FileTooLarge, OutputIsTerminal, OutputFailed, NoMemory}
-use Rattle.rim_cli.proofs.ReadFileByFile.{of_bytes, read_next}
-use Rattle.rim_cli.specs.declared.file.TheConstants.{FILE_LIMIT}
+use Rattle.rim_files.specs.declared.fault.Fault.{Fault}
+use Rattle.rim_files.specs.declared.fault.Fault.TheVariants.{Manifest, NoSuchLaunch, Start, Refused, NoDevicetree, Show, FileUnreadable, FileTooLarge, OutputIsTerminal, OutputFailed, NoMemory}
+use Rattle.rim_files.proofs.ReadFileByFile.{of_bytes, read_next}
+use Rattle.rim_files.specs.declared.file.TheConstants.{FILE_LIMIT}
 
 -- a fault of a file that is no want of memory is why the file cannot be read
 pub unread_said : (known : Known) (path hint : List ℕ) (fault : Fault) → IsFileFault known fault → (fault ≡ NoMemory → ⊥)

@@ -1,6 +1,4 @@
 -- To prove: `run` has written what is to be written of the files, for the request that the words are for.
--- Files: they are read up to a limit, one after another, and the first that cannot be read is named
-pub mod ReadFileByFile
 -- what holds of the release that was read holds of the one that the manifest describes, and of a launch by its name
 pub mod ReleaseOfManifest
 -- A run over a manifest in memory writes the report of the manifest, or of its fault

@@ -7,7 +7,7 @@ use Rattle.rim_manifest.specs.declared.fault.ManifestFault.{ManifestFault}
 use Rattle.rim_audit.specs.Listing.{text_or_line}
 use Rattle.rim_accepted.specs.declared.audit_fault.AuditFault.{AuditFault}
 use Rattle.rim_cli.specs.Done.{IsShown, OfLaunch}
-use Rattle.rim_cli.specs.Files.{AreRead, IfFile, Known}
+use Rattle.rim_files.specs.Files.{AreRead, IfFile, Known}
 
 -- what holds of the release that was read holds of the one that the manifest describes
 pub of_release : (known : Known) (r : ReleaseData) (Q : ReleaseData → Type 0) → IfFile known (λ bytes. manifest_of bytes ≡ Ok r)

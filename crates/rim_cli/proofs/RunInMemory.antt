@@ -15,7 +15,7 @@ use Rattle.rim_report.specs.Report.{measured_of}
 use Rattle.rim_words.specs.Command.{ReadsAsk, ReadsRequest, rim}
 use Rattle.rim_cli.specs.Done.{AsksFor, IsAnswer, IsMade, IsReport, output_of}
 use Rattle.rim_words.specs.Examples.{plain}
-use Rattle.rim_cli.specs.Files.{AreRead, IfFile, Known}
+use Rattle.rim_files.specs.Files.{AreRead, IfFile, Known}
 use Rattle.rim_words.specs.declared.words.Format.{Format}
 use Rattle.rim_words.specs.declared.words.Format.TheVariants as format
 use Rattle.rim_words.specs.declared.words.Ask.{Ask}

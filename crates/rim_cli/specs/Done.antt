@@ -36,14 +36,14 @@ use Rattle.rim_words.specs.declared.words.Ask.TheVariants as ask
 use Rattle.rim_words.specs.declared.words.ManifestAsk.TheVariants.{Measure, Audit, Check}
 use Rattle.rim_words.specs.declared.words.LaunchAsk.TheVariants.{List as Lists, Trace, Map, Dtb}
 use Rattle.rim_words.specs.declared.words.FileAsk.TheVariants.{Replay, Image, Fdt}
-use Rattle.rim_cli.specs.declared.fault.Fault.{Fault}
-use Rattle.rim_cli.specs.declared.fault.Fault.TheVariants.{Manifest, NoSuchLaunch, Start, Refused, NoDevicetree, Show}
+use Rattle.rim_files.specs.declared.fault.Fault.{Fault}
+use Rattle.rim_files.specs.declared.fault.Fault.TheVariants.{Manifest, NoSuchLaunch, Start, Refused, NoDevicetree, Show}
 use Rattle.rim_words.specs.Command.{ReadsRequest, rim}
-use Rattle.rim_cli.specs.Files.{AreRead, IfFile, IsFileFault, IsFirstFault, Known}
+use Rattle.rim_files.specs.Files.{AreRead, IfFile, IsFileFault, IsFirstFault, Known}
 use Rattle.rim_cli.specs.Unread.{AreUnread}
 use Rattle.rim_cli.specs.Mapped.{IsMapOf}
 use Rattle.rim_cli.specs.Replayed.{IsReplayed}
-use Rattle.rim_cli.specs.Status.{status_of}
+use Rattle.rim_files.specs.Status.{status_of}
 
 -- ---- what is answered
 

@@ -1,10 +1,10 @@
 -- Files that cannot be read, and what is said of each. This project's choice.
 use Rattle.std.specs.Prelude.{◌≡◌, ◌⊎◌, ◌≤◌, ℕ, List, [], ◌∷◌, length}
 use Rattle.shown_text.specs.Lines.{Saying, file_said}
-use Rattle.rim_cli.specs.declared.fault.Fault.TheVariants.{FileUnreadable, FileTooLarge}
-use Rattle.rim_cli.specs.Files.{IfFile, IsFileFault, Known}
-use Rattle.rim_cli.specs.Status.{word_of}
-use Rattle.rim_cli.specs.declared.file.TheConstants.{FILE_LIMIT}
+use Rattle.rim_files.specs.declared.fault.Fault.TheVariants.{FileUnreadable, FileTooLarge}
+use Rattle.rim_files.specs.Files.{IfFile, IsFileFault, Known}
+use Rattle.rim_files.specs.Status.{word_of}
+use Rattle.rim_files.specs.declared.file.TheConstants.{FILE_LIMIT}
 
 -- what is said of the file at a path, of which this is known: its path and the word of why it cannot be read, with a hint of which
 -- nothing is known

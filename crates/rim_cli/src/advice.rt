@@ -1,14 +1,13 @@
 //! What is said after a fault or a refusal to a person at a terminal, or to one who asks for it: why, as `rim check` says it, or which file it
 //! is about. That it is true is tested alone.
 use crate::checking::{check_path, failure_text};
-use crate::fault::Fault;
-use crate::file::{Opener, Unread, read_or_why};
 use crate::found::read_launch;
 use crate::program::Terminals;
 use file_front::{devicetree_front, image_front};
 use refusal::NoMemory;
 use rim_accepted::accept;
 use rim_check::{MarkedLine, Nearest, Remark, refusal_remark};
+use rim_files::{Fault, Opener, Unread, read_or_why};
 use rim_release::{ShowFault, read_manifest};
 use rim_words::{Ask, LaunchAsk, ManifestAsk, Request};
 use shown_text::{Line, Quoted, Word};

@@ -10,11 +10,9 @@ ghost use Rattle.rim_manifest.specs.Manifest.{manifest_of};
 ghost use Rattle.rim_show.specs.ShownDevicetree.{ShowsDevicetree};
 ghost use Rattle.rim_show.specs.ShownImage.{image_answer_of};
 ghost use Rattle.rim_cli.specs.Done.{IsAnswer, IsAudit, IsDevicetree, IsListing, IsManifestFault, IsReport, IsReportAsJson, IsReportOf, IsTrace, Refuses, RefusesAudit, RefusesDtb, RefusesFdt, RefusesImage, RefusesListing, RefusesManifest, RefusesReport};
-ghost use Rattle.rim_cli.specs.Files.{AreRead, IfFile};
+ghost use Rattle.rim_files.specs.Files.{AreRead, IfFile};
 
 use crate::checking::check;
-use crate::fault::Fault;
-use crate::file::{Opener, read_file, read_files};
 use crate::found::{read_launch, read_release, release_in};
 use crate::freed::keep_freed_memory;
 use crate::mapping::map;
@@ -22,6 +20,7 @@ use crate::replaying::replay;
 use file_digests::{Digested, measure_with_digests};
 use refusal::NoMemory;
 use rim_check::{MarkedLine, refusals};
+use rim_files::{Fault, Opener, read_file, read_files};
 use rim_json::json_report;
 use rim_release::{
     AcceptedRelease, Gate, Lanes, LoadedRelease, Report, StartFault, accept_all, audit_with_gate,

@@ -1,18 +1,17 @@
 //! What is wrong with a manifest, with its files and with its launches.
 ghost use Rattle.std.specs.Prelude.{◌≡◌, ◌≢◌, ◌⊎◌, ◌≤◌, [], ◌++◌, IfErr, IfOk, OnOk, if◌then◌else◌, map};
 ghost use Rattle.rim_cli.specs.Done.{Finds, IsCheckIn, IsReleaseCheck, check_status, shown_in};
-ghost use Rattle.rim_cli.specs.Files.{IfFile, IsFileFault};
+ghost use Rattle.rim_files.specs.Files.{IfFile, IsFileFault};
 ghost use Rattle.shown_text.specs.Lines.{lines_of};
 ghost use Rattle.rim_cli.specs.inside.Found.{AreFound, HasRemark, findings_of};
 
 use crate::answer::Answer;
-use crate::fault::Fault;
-use crate::file::{FILE_LIMIT, Opener, Unread, read_file, read_or_why};
 use refusal::NoMemory;
 use rim_check::{
     LaunchCheck, ManifestCheck, MarkedLine, ReleaseFault, Remark, check_json, check_launches,
     check_manifest, lines_of, mark_first, push_file,
 };
+use rim_files::{FILE_LIMIT, Fault, Opener, Unread, read_file, read_or_why};
 use rim_release::{Files, LoadedRelease, Release};
 use rim_words::Format;
 use std::alloc::{AllocError, Global};

@@ -2,10 +2,9 @@
 ghost use Rattle.std.specs.Prelude.{◌≡◌, ◌<◌, IfErr, IfOk, Ok, Some, length, map, position, vec_len};
 ghost use Rattle.rim_manifest.specs.Manifest.{manifest_of, name_in};
 ghost use Rattle.rim_cli.specs.Done.{IsManifestFault, RefusesListing, RefusesManifest};
-ghost use Rattle.rim_cli.specs.Files.{AreRead, IfFile, IsRead, Known};
+ghost use Rattle.rim_files.specs.Files.{AreRead, IfFile, IsRead, Known};
 
-use crate::fault::Fault;
-use crate::file::{Opener, read_file, read_files};
+use rim_files::{Fault, Opener, read_file, read_files};
 use rim_release::{Files, LoadedLaunch, LoadedRelease, Release, read_manifest};
 use std::alloc::Global;
 

@@ -7,8 +7,8 @@ ghost use Rattle.rim_manifest.specs.declared.fault.ManifestFault.{ManifestFault}
 ghost use Rattle.rim_accepted.specs.Lines.{has_refused};
 ghost use Rattle.rim_report.specs.Report.{measured_of};
 
-use crate::file::Opener;
 use crate::program::{Terminals, run};
+use rim_files::Opener;
 use rim_release::FreeGate;
 use std::alloc::Global;
 use std::sync::Wait;

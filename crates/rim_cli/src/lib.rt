@@ -4,21 +4,18 @@
 mod advice;
 mod answer;
 mod checking;
-mod fault;
-mod file;
 mod found;
 mod freed;
 mod in_memory;
 mod laws;
 mod mapping;
-mod patient;
 mod program;
 mod replaying;
 
-pub use file::Opener;
 pub use in_memory::measure_in_memory;
 pub use laws::{answers_are_printed, the_smallest_manifest_is_read};
 pub use program::{Terminals, report_unreadable, run};
+pub use rim_files::Opener;
 pub use rim_release::{FreeGate, Gate, JobId, Lanes};
 pub use rim_words::{
     Ask, CommandFault, FileAsk, Format, LaunchAsk, ManifestAsk, Request, command, examples_are_read,

@@ -1,7 +1,7 @@
 //! The map of a manifest's launch.
 ghost use Rattle.std.specs.Prelude.{◌≡◌, ◌<◌, ◌≤◌, ◌++◌, ℕ, List, [], IfErr, IfOk, IfSome, IsOkAnd, Ok, Some, codes, length, map, position, slice_get, true, vec_len};
 ghost use Rattle.rim_cli.specs.Done.{IsMapped, RefusesListing, RefusesManifest};
-ghost use Rattle.rim_cli.specs.Files.{IfFile};
+ghost use Rattle.rim_files.specs.Files.{IfFile};
 ghost use Rattle.rim_cli.specs.Mapped.{IsMapOf, ShowsPlaced, ShowsRefusal};
 ghost use Rattle.rim_check.specs.Explained.{refusal_said};
 ghost use Rattle.shown_text.specs.Lines.{Says};
@@ -10,12 +10,11 @@ ghost use Rattle.ipa_layout.specs.Files.{bytes_of_files};
 ghost use Rattle.rim_manifest.specs.Manifest.{manifest_of};
 
 use crate::answer::Answer;
-use crate::fault::Fault;
-use crate::file::Opener;
 use crate::found::read_launch;
 use refusal::NoMemory;
 use rim_accepted::{LaunchReason, ListedLaunch, LoadedLaunch, accept_with_list};
 use rim_check::refusal_remark;
+use rim_files::{Fault, Opener};
 use rim_manifest::Release;
 use rim_map::{RefusedLaunch, map_json, map_text, refused_json, refused_text};
 use rim_words::Format;

@@ -6,13 +6,12 @@ ghost use Rattle.clap.specs.Words.{kind_of, takes};
 ghost use Rattle.rim_words.specs.Command.{AsksForBytes, AsksForHelp, HasCrew, IsMistaken, is_asked, rim, verb_of};
 ghost use Rattle.rim_cli.specs.Done.{AsksFor, EndsWithFault, IsDone, IsWritten, output_of};
 ghost use Rattle.std.specs.IoError.{error_kind};
-ghost use Rattle.rim_cli.specs.Status.{status_of, unreadable_status};
+ghost use Rattle.rim_files.specs.Status.{status_of, unreadable_status};
 
 use crate::advice::{advise, explain_refusals, is_explained, show_mark, show_unsaved};
 use crate::answer::{Answer, answer_to};
-use crate::fault::Fault;
-use crate::file::Opener;
 use clap::error::ErrorKind as UsageKind;
+use rim_files::{Fault, Opener};
 use rim_release::Gate;
 use rim_words::{Ask, CommandFault, LaunchAsk, Request, command};
 use shown_text::Line;

@@ -1,11 +1,10 @@
 //! Whether a listing is what it says.
 ghost use Rattle.std.specs.Prelude.{◌≡◌, ◌≤◌, Err, IfErr, IfOk, Some, string_bytes};
-ghost use Rattle.rim_cli.specs.Files.{IfFile, IsFileFault};
+ghost use Rattle.rim_files.specs.Files.{IfFile, IsFileFault};
 ghost use Rattle.rim_cli.specs.Replayed.{IsReplayed, replay_text};
 
 use crate::answer::Answer;
-use crate::fault::Fault;
-use crate::file::{Opener, read_file};
+use rim_files::{Fault, Opener, read_file};
 use rim_release::{ReplayFault, refused_kind};
 use std::alloc::{AllocError, Global};
 

@@ -3,11 +3,11 @@ use Rattle.std.specs.Prelude.{◌≡◌, ℕ, List, []}
 use Rattle.shown_text.specs.Lines.{AddsLine, Saying, SayInTurn, file_said}
 use Rattle.shown_text.specs.declared.remark.Remark.{Remark}
 use Rattle.rim_cli.specs.Done.{Findings}
-use Rattle.rim_cli.specs.Files.{AreRead, Known}
-use Rattle.rim_cli.specs.Status.{word_of}
+use Rattle.rim_files.specs.Files.{AreRead, Known}
+use Rattle.rim_files.specs.Status.{word_of}
 use Rattle.rim_cli.specs.Unread.{AreUnread}
 use Rattle.rim_cli.specs.declared.checking.Checked.{Checked}
-use Rattle.rim_cli.specs.declared.fault.Fault.{Fault}
+use Rattle.rim_files.specs.declared.fault.Fault.{Fault}
 
 -- in the loop over the files of a release: a remark on each file at these paths that cannot be read; and where there is none, the bytes of each file
 pub record AreFound (held : List ℕ → Known) (paths files : List (List ℕ)) (remarks : List Remark) : Type 0 where

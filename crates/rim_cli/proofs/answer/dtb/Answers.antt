@@ -3,8 +3,8 @@ use Rattle.std.specs.Prelude.{Ok, Err}
 use Rattle.ipa_layout.specs.Files.{bytes_of_files}
 use Rattle.rim_accepted.specs.Devicetree.{devicetree_of}
 use Rattle.rim_cli.specs.Done.{IsDevicetree, RefusesDtb}
-use Rattle.rim_cli.specs.Files.{Known}
-use Rattle.rim_cli.specs.declared.fault.Fault.TheVariants.{NoDevicetree, Refused}
+use Rattle.rim_files.specs.Files.{Known}
+use Rattle.rim_files.specs.declared.fault.Fault.TheVariants.{NoDevicetree, Refused}
 use Rattle.rim_cli.proofs.ReleaseOfManifest.{found_launch, of_release}
 use Rattle.rim_cli.proofs.answer.dtb.Goals as goal
 

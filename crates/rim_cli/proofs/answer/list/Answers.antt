@@ -1,7 +1,7 @@
 use Rattle.std.proofs.Common.{ℕ, List, map}
 use Rattle.rim_audit.specs.Listing.{listing_of}
 use Rattle.rim_cli.specs.Done.{IsShown, IsListing}
-use Rattle.rim_cli.specs.Files.{Known}
+use Rattle.rim_files.specs.Files.{Known}
 use Rattle.rim_cli.proofs.ReleaseOfManifest.{found_launch, of_release, shown}
 use Rattle.rim_cli.proofs.answer.list.Goals as goal
 

@@ -1,6 +1,6 @@
 use Rattle.std.proofs.Common.{ℕ, List, arith, map}
 use Rattle.std.proofs.lemmas.List.{length-map}
-use Rattle.rim_cli.specs.Files.{Known}
+use Rattle.rim_files.specs.Files.{Known}
 use Rattle.rim_cli.proofs.CheckedLaunches.{launches-checked}
 use Rattle.rim_cli.proofs.FaultsOfFiles.{all_files, read_count}
 use Rattle.rim_cli.proofs.checking.check_release.Goals as goal

@@ -1,6 +1,6 @@
 use Rattle.std.proofs.Common.{◌≡◌, ◌++◌, [], ◌∷◌, ℕ, List, rules, map, ◌∙◌, subst}
 use Rattle.std.proofs.lemmas.List.{map-append}
-use Rattle.rim_cli.specs.Files.{IsFileFault, IsRead, Known}
+use Rattle.rim_files.specs.Files.{IsFileFault, IsRead, Known}
 use Rattle.rim_cli.proofs.FaultsOfFiles.{found_fault, found_file, unread_said}
 use Rattle.rim_cli.proofs.checking.find_files.Goals as goal
 use Rattle.rim_cli.proofs.checking.find_files.Goals.{in-Ok+in_ok-map_err-in-Ok, in-Err+in_ok-push_unread-in-Err}

@@ -2,8 +2,8 @@ use Rattle.std.proofs.Common.{◌≡◌, List, ℕ}
 use Rattle.std.specs.Prelude.{Ok}
 use Rattle.std.proofs.lemmas.Result.{IfErr-weaker, IfOk-weaker}
 use Rattle.rim_manifest.specs.Manifest.{manifest_of}
-use Rattle.rim_cli.specs.Files.{Known}
-use Rattle.rim_cli.proofs.ReadFileByFile.{of_bytes}
+use Rattle.rim_files.specs.Files.{Known}
+use Rattle.rim_files.proofs.ReadFileByFile.{of_bytes}
 use Rattle.rim_cli.proofs.found.read_release.Goals as goal
 
 pub returns-clause-read : goal.returns-clause-read

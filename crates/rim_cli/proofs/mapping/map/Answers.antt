@@ -1,6 +1,6 @@
 use Rattle.std.proofs.Common.{ℕ, List, map}
 use Rattle.rim_cli.specs.Done.{IsMapped}
-use Rattle.rim_cli.specs.Files.{Known}
+use Rattle.rim_files.specs.Files.{Known}
 use Rattle.rim_cli.specs.Mapped.{IsMapOf}
 use Rattle.rim_cli.proofs.ReleaseOfManifest.{found_launch, of_release}
 use Rattle.rim_cli.proofs.mapping.map.Goals as goal

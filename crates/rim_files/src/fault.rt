@@ -1,6 +1,6 @@
 //! Why a run of the program fails.
 ghost use Rattle.std.specs.Prelude.{◌≡◌, ◌≤◌};
-ghost use Rattle.rim_cli.specs.Status.{word_of, status_of};
+ghost use Rattle.rim_files.specs.Status.{word_of, status_of};
 
 use rim_release::{AuditFault, ManifestFault, ShowFault, StartFault};
 

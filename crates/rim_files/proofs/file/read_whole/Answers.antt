@@ -1,7 +1,7 @@
 use Rattle.std.proofs.Common.{◌<◌, ap, arith, length}
 use Rattle.std.proofs.lemmas.Grind.{common_steps}
-use Rattle.rim_cli.proofs.ReadFileByFile.{all_read}
-use Rattle.rim_cli.proofs.file.read_whole.Goals as goal
+use Rattle.rim_files.proofs.ReadFileByFile.{all_read}
+use Rattle.rim_files.proofs.file.read_whole.Goals as goal
 
 pub returns-in-Ok-clause-whole : goal.returns-in-Ok-clause-whole
 returns-in-Ok-clause-whole g c =

@@ -1,6 +1,6 @@
 use Rattle.std.proofs.Common.{◌≡◌, map, take, vec_len}
-use Rattle.rim_cli.specs.Files.{AreRead}
-use Rattle.rim_cli.proofs.file.read_files.Given as goal
+use Rattle.rim_files.specs.Files.{AreRead}
+use Rattle.rim_files.proofs.file.read_files.Given as goal
 
 abbrev pub invariant-loop-i : goal.invariant-loop-i
 invariant-loop-i g l = record {

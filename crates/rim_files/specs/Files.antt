@@ -1,8 +1,8 @@
 -- Files as the program reads them. This project's choice.
 use Rattle.std.specs.Prelude.{◌≡◌, ◌⊎◌, ◌<◌, ◌≤◌, ℕ, List, [], ◌∷◌, Option, Some, IfSome, IsSomeAnd, length}
-use Rattle.rim_cli.specs.declared.fault.Fault.{Fault}
-use Rattle.rim_cli.specs.declared.fault.Fault.TheVariants.{FileUnreadable, FileTooLarge, NoMemory}
-use Rattle.rim_cli.specs.declared.file.TheConstants.{FILE_LIMIT}
+use Rattle.rim_files.specs.declared.fault.Fault.{Fault}
+use Rattle.rim_files.specs.declared.fault.Fault.TheVariants.{FileUnreadable, FileTooLarge, NoMemory}
+use Rattle.rim_files.specs.declared.file.TheConstants.{FILE_LIMIT}
 
 -- what is known of a path: nothing; that no file can be opened there, `Some None`; or the bytes of the file there
 abbrev pub Known : Type 0

@@ -2,8 +2,8 @@
 use Rattle.std.specs.Prelude.{ℕ, List, codes}
 use Rattle.std.specs.declared.io.ErrorKind.{ErrorKind}
 use Rattle.std.specs.declared.io.ErrorKind.TheVariants as error
-use Rattle.rim_cli.specs.declared.fault.Fault.{Fault}
-use Rattle.rim_cli.specs.declared.fault.Fault.TheVariants.{Manifest, NoSuchLaunch, Start, Refused, NoDevicetree, Show, FileUnreadable, FileTooLarge, OutputIsTerminal, OutputFailed, NoMemory}
+use Rattle.rim_files.specs.declared.fault.Fault.{Fault}
+use Rattle.rim_files.specs.declared.fault.Fault.TheVariants.{Manifest, NoSuchLaunch, Start, Refused, NoDevicetree, Show, FileUnreadable, FileTooLarge, OutputIsTerminal, OutputFailed, NoMemory}
 use Rattle.rim_manifest.specs.Faults.{kind_of}
 use Rattle.rim_manifest.specs.declared.fault.ManifestFault.TheVariants as manifest
 use Rattle.rim_accepted.specs.AuditFaults.{audit_kind_of}

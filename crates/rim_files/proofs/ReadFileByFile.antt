@@ -3,9 +3,9 @@ use Rattle.std.proofs.Common.{◌≡◌, ℕ, zero, suc, ◌+◌, ◌<◌, ◌�
 use Rattle.std.specs.Prelude.{IfSome}
 use Rattle.std.proofs.lemmas.List.{length-take, take_all}
 use Rattle.std.proofs.lemmas.Option.{same_Some}
-use Rattle.rim_cli.specs.Files.{AreRead, IfFile, IsFileFault, IsFirstFault, IsRead, Known}
-use Rattle.rim_cli.specs.declared.fault.Fault.{Fault}
-use Rattle.rim_cli.specs.declared.file.TheConstants.{FILE_LIMIT}
+use Rattle.rim_files.specs.Files.{AreRead, IfFile, IsFileFault, IsFirstFault, IsRead, Known}
+use Rattle.rim_files.specs.declared.fault.Fault.{Fault}
+use Rattle.rim_files.specs.declared.file.TheConstants.{FILE_LIMIT}
 
 -- fewer bytes than the limit allows are all bytes
 pub all_read : (o : Option (List ℕ)) (n : ℕ) (bytes : List ℕ) → IfSome (option_map (take n) o) (λ xs. bytes ≡ [] ++ xs)

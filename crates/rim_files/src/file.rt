@@ -1,7 +1,7 @@
 //! Files, opened by their paths and read whole, or saved.
 ghost use Rattle.std.specs.Prelude.{◌≡◌, ◌≤◌, ℕ, IfErr, IfOk, IfSome, List, None, OnOk, Some, length, map, option_map, vec_len};
-ghost use Rattle.rim_cli.specs.Files.{AreRead, IfFile, IsFileFault, IsFirstFault, IsRead, Known};
-ghost use Rattle.rim_cli.specs.declared.file.TheConstants.{FILE_LIMIT};
+ghost use Rattle.rim_files.specs.Files.{AreRead, IfFile, IsFileFault, IsFirstFault, IsRead, Known};
+ghost use Rattle.rim_files.specs.declared.file.TheConstants.{FILE_LIMIT};
 
 use crate::fault::Fault;
 use crate::patient::Patient;

@@ -1,9 +1,9 @@
 use Rattle.std.proofs.Common.{◌≡◌, ◌+◌, ◌++◌, [], ◌∷◌, ℕ, List, rules, map, vec_len, ap, ◌∙◌, sym, subst}
 use Rattle.std.proofs.lemmas.List.{map-append}
 use Rattle.std.proofs.lemmas.Result.{err_from_is_err_and}
-use Rattle.rim_cli.specs.Files.{AreRead, IsFileFault, IsRead, Known}
-use Rattle.rim_cli.proofs.ReadFileByFile.{first_fault, read_next}
-use Rattle.rim_cli.proofs.file.read_files.Goals as goal
+use Rattle.rim_files.specs.Files.{AreRead, IsFileFault, IsRead, Known}
+use Rattle.rim_files.proofs.ReadFileByFile.{first_fault, read_next}
+use Rattle.rim_files.proofs.file.read_files.Goals as goal
 
 pub loop-i-preserved : goal.loop-i-preserved
 loop-i-preserved g c =
