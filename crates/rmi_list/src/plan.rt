@@ -179,7 +179,7 @@ fn number(alloc: Global, spans: &[Span]) -> Result<Vec<usize>, NoMemory>
     requires { sum_by commands_in spans.now < 2 ^ 64 }
     ensures { IfOk result (λ starts. AreStarts spans.now starts.items) }
 {
-    let mut starts = Vec::new(alloc);
+    let mut starts = Vec::with_capacity(alloc, spans.len() + 1)?;
     let mut len = 0;
     starts.push(len)?;
     for span in spans {
