@@ -1,6 +1,7 @@
 #!/usr/bin/env python3
 """No launch is laid out or listed twice in one run: the crates' sources have one call of each of these, in what accepts a launch; and each
-command accepts a launch at one place. Only why a launch is refused, where that is to be explained, is found by reading all again.
+command accepts a launch at one place. Only after a fault, where that is to be explained, a check reads all again: of a release of too many
+pages it lays out the launches too.
 
     tests/once.py
 
@@ -21,9 +22,9 @@ ACCEPTING = "rim_accepted/src/accepted/accepting.rt"
 CALLS = {
     "place": [], "list": [], "place_with_reason": ["ipa_layout/src/layout.rt", ACCEPTING],
     "list_with_reason": [ACCEPTING, "rmi_list/src/listing.rt"], "granules_taken": [ACCEPTING],
-    # measuring by the program, by workers and by one thread; `rim check`; `rim dtb`; why a launch is refused
+    # measuring by the program, by workers and by one thread; `rim check`; `rim dtb`
     "accept_all": ["rim_cli/src/answer.rt", "rim_report/src/one_thread.rt", "rim_report/src/workers.rt"],
-    "accept": ["rim_accepted/src/devicetree.rt", "rim_accepted/src/release.rt", "rim_check/src/launches.rt", "rim_cli/src/advice.rt"],
+    "accept": ["rim_accepted/src/devicetree.rt", "rim_accepted/src/release.rt", "rim_check/src/launches.rt"],
     # `rim audit`, `rim list` and `rim trace`; `rim map`
     "accept_with_list": [ACCEPTING, "rim_audit/src/laying_out.rt", "rim_cli/src/mapping.rt"],
 }

@@ -17,7 +17,8 @@ use job_board::JobId;
 use job_workers::{FreeGate, Gate};
 use refusal::NoMemory;
 use rim_accepted::{
-    AuditFault, Files, LoadedLaunch, LoadedRelease, Report, has_refused, push_lines,
+    AuditFault, Files, LoadedLaunch, LoadedRelease, Reasons, Report, Unasked, has_refused,
+    push_lines,
 };
 use rim_desc::{Lanes, Measurement};
 use rim_manifest::Release;
@@ -39,7 +40,7 @@ pub fn audit(
 {
     let mut kept = Kept::nothing(alloc, files);
     let launch = LoadedRelease::new(release, files).launch(i);
-    audit_launch(alloc, launch, &mut kept, Lanes::Four)
+    audit_launch(alloc, launch, &mut kept, Lanes::Four, &mut Unasked)
 }
 
 /// The audit of all launches: a line `rim-audit 1`; and a line `NAME ALGO HEX` for each launch in the manifest's order, or
@@ -60,22 +61,23 @@ pub fn audit_launches(alloc: Global, loaded: LoadedRelease<'_>) -> Result<Report
     ensures refused { IfOk result (λ r. r.has_refused ≡ has_refused
         (bytes_of_files loaded.entry.files.now) loaded.entry.release.now.launches) }
 {
-    audit_with_gate(alloc, &FreeGate, loaded)
+    audit_with_gate(alloc, &FreeGate, loaded, &mut Unasked)
 }
 
-/// The same, where a gate is called around the audit of each launch, as by worker 0, and no page is counted. No clause speaks of
-/// the gate, so what the audit says does not depend on it.
-pub fn audit_with_gate<G: Gate>(
+/// The same, where a gate is called around the audit of each launch, as by worker 0, and no page is counted; and `reasons` is told why
+/// launches are refused. No clause speaks of the two, so what the audit says does not depend on them.
+pub fn audit_with_gate<G: Gate, W: Reasons>(
     alloc: Global,
     gate: &G,
     loaded: LoadedRelease<'_>,
+    reasons: &mut W,
 ) -> Result<Report, NoMemory>
     ensures text { IfOk result (λ r. r.text.items ≡ audit_text_of
         (bytes_of_files loaded.entry.files.now) loaded.entry.release.now.launches) }
     ensures refused { IfOk result (λ r. r.has_refused ≡ has_refused
         (bytes_of_files loaded.entry.files.now) loaded.entry.release.now.launches) }
 {
-    let outcomes = outcomes(alloc, gate, loaded)?;
+    let outcomes = outcomes(alloc, gate, loaded, reasons)?;
     let mut text = Vec::new(alloc);
     text.extend_from_slice(b"rim-audit 1\n")?;
     push_lines(&mut text, loaded.release.all_launches(), &outcomes)?;
@@ -87,10 +89,11 @@ pub fn audit_with_gate<G: Gate>(
 
 /// What came of each launch. What launches share is done once where there is room and memory for it: pages of files are hashed, and
 /// first commands are given to a monitor.
-fn outcomes<G: Gate>(
+fn outcomes<G: Gate, W: Reasons>(
     alloc: Global,
     gate: &G,
     loaded: LoadedRelease<'_>,
+    reasons: &mut W,
 ) -> Result<Vec<Result<Measurement, AuditFault>>, NoMemory>
     ensures { IfOk result (λ found. map seen found.items
         ≡ map (λ l. rim_for l.launch (bytes_of_files loaded.entry.files.now))
@@ -105,7 +108,7 @@ fn outcomes<G: Gate>(
         gate.before(0, job);
         kept.close_at_last(number.saturating_add(1) >= release.launches());
         let launch = LoadedLaunch { launch, files };
-        found.push(outcome(alloc, launch, &mut kept, gate.lanes())?)?;
+        found.push(outcome(alloc, launch, &mut kept, gate.lanes(), reasons)?)?;
         gate.after(0, job);
     }
     Ok(found)
@@ -113,11 +116,12 @@ fn outcomes<G: Gate>(
 
 /// What came of a launch: its measurement, or its own refusal. Where memory is refused, what is kept of other launches is freed,
 /// and this launch alone is audited again.
-fn outcome<'a>(
+fn outcome<'a, W: Reasons>(
     alloc: Global,
     launch: LoadedLaunch<'a>,
     kept: &mut Kept<'a>,
     lanes: Lanes,
+    reasons: &mut W,
 ) -> Result<Result<Measurement, AuditFault>, NoMemory>
     requires { AreKept (bytes_of_files launch.files.now) kept.old }
     ensures outcome { IfOk result
@@ -125,22 +129,23 @@ fn outcome<'a>(
         (bytes_of_files launch.entry.files.now)) }
     ensures kept { AreKept (bytes_of_files launch.entry.files.now) kept.new }
 {
-    match audit_launch(alloc, launch, kept, lanes) {
+    match audit_launch(alloc, launch, kept, lanes, reasons) {
         Ok(rim) => Ok(Ok(rim)),
         Err(AuditFault::NoMemory) => {
             kept.free(launch.files);
-            outcome_again(alloc, launch, kept, lanes)
+            outcome_again(alloc, launch, kept, lanes, reasons)
         }
         Err(fault) => Ok(Err(fault)),
     }
 }
 
 /// The same, where nothing is kept that could be freed.
-fn outcome_again<'a>(
+fn outcome_again<'a, W: Reasons>(
     alloc: Global,
     launch: LoadedLaunch<'a>,
     kept: &mut Kept<'a>,
     lanes: Lanes,
+    reasons: &mut W,
 ) -> Result<Result<Measurement, AuditFault>, NoMemory>
     requires { AreKept (bytes_of_files launch.files.now) kept.old }
     ensures outcome { IfOk result
@@ -148,7 +153,7 @@ fn outcome_again<'a>(
         (bytes_of_files launch.entry.files.now)) }
     ensures kept { AreKept (bytes_of_files launch.entry.files.now) kept.new }
 {
-    match audit_launch(alloc, launch, kept, lanes) {
+    match audit_launch(alloc, launch, kept, lanes, reasons) {
         Ok(rim) => Ok(Ok(rim)),
         Err(fault) => Ok(Err(fault.own_fault()?)),
     }
@@ -157,18 +162,19 @@ fn outcome_again<'a>(
 /// The measurement that a monitor holds after the commands of a launch, or why the launch is refused. Its edited devicetree is
 /// made here and dropped.
 #[tactic(auto, unfolding(rim_accepted::specs::Accepted::rim_for))]
-fn audit_launch<'a>(
+fn audit_launch<'a, W: Reasons>(
     alloc: Global,
     launch: LoadedLaunch<'a>,
     kept: &mut Kept<'a>,
     lanes: Lanes,
+    reasons: &mut W,
 ) -> Result<Measurement, AuditFault>
     requires { AreKept (bytes_of_files launch.files.now) kept.old }
     ensures rim { Answers AuditFault.NoMemory (λ m. m.bytes) result
         (rim_for launch.entry.launch.now.launch (bytes_of_files launch.entry.files.now)) }
     ensures kept { AreKept (bytes_of_files launch.entry.files.now) kept.new }
 {
-    let commands = lay_out(alloc, launch, lanes)?;
+    let commands = lay_out(alloc, launch, lanes, reasons)?;
     let (rim, copies) = followed(alloc, &commands, kept)?;
     kept.keep(commands, copies);
     Ok(rim)

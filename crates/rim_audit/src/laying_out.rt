@@ -6,16 +6,17 @@ ghost use Rattle.rim_accepted.specs.Accepted.{commands_for};
 ghost use Rattle.rim_audit.specs.inside.Commands.{commands_in};
 
 use crate::commands::LaunchCommands;
-use rim_accepted::{AuditFault, LoadedLaunch, accept_with_list};
+use rim_accepted::{AuditFault, LoadedLaunch, Reasons, accept_with_list};
 use rim_desc::Lanes;
 use std::alloc::Global;
 
-/// The commands of a launch, which is placed and listed here; or why it is refused. Their pages are
+/// The commands of a launch, which is placed and listed here; or why it is refused, which `reasons` is told. Their pages are
 /// hashed in as many lanes.
-pub fn lay_out<'a>(
+pub fn lay_out<'a, W: Reasons>(
     alloc: Global,
     loaded: LoadedLaunch<'a>,
     lanes: Lanes,
+    reasons: &mut W,
 ) -> Result<LaunchCommands<'a>, AuditFault>
     ensures commands { Answers AuditFault.NoMemory commands_in result
         (commands_for loaded.entry.launch.now.launch (bytes_of_files loaded.entry.files.now)) }
@@ -28,6 +29,9 @@ pub fn lay_out<'a>(
             plan: listed.plan,
             lanes,
         }),
-        Err(reason) => Err(reason.fault()),
+        Err(reason) => {
+            reasons.refused(loaded.launch, loaded.files, &reason);
+            Err(reason.fault())
+        }
     }
 }

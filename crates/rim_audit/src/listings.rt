@@ -18,7 +18,8 @@ use crate::laying_out::lay_out;
 use itoa::Buffer;
 use refusal::NoMemory;
 use rim_accepted::{
-    AuditFault, Files, LoadedLaunch, LoadedRelease, Report, push_line, push_rim, refused_report,
+    AuditFault, Files, LoadedLaunch, LoadedRelease, Reasons, Report, Unasked, push_line, push_rim,
+    refused_report,
 };
 use rim_desc::{Algo, Command, Lanes, Measurement, RecRule};
 use rim_manifest::Release;
@@ -45,14 +46,17 @@ pub fn listing(
         alloc,
         LoadedRelease::new(release, files).launch(i),
         Lanes::Four,
+        &mut Unasked,
     )
 }
 
-/// The listing of a launch; or, where it is refused, its line of a report: `NAME refused KIND`. Pages are hashed in as many lanes.
-pub fn listing_or_refusal(
+/// The listing of a launch; or, where it is refused, its line of a report: `NAME refused KIND`, and `reasons` is told why. Pages are hashed
+/// in as many lanes.
+pub fn listing_or_refusal<W: Reasons>(
     alloc: Global,
     lanes: Lanes,
     loaded: LoadedLaunch<'_>,
+    reasons: &mut W,
 ) -> Result<Report, NoMemory>
     ensures text { IfOk result (λ r. r.text.items ≡ shown_of (bytes_of_files loaded.entry.files.now)
         loaded.entry.launch.now) }
@@ -61,7 +65,7 @@ pub fn listing_or_refusal(
     ensures confirmed { IfOk result
         (λ r. r.has_refused ≡ false → ReplayAnswer r.text.items (Ok tt)) }
 {
-    match list_launch(alloc, loaded, lanes) {
+    match list_launch(alloc, loaded, lanes, reasons) {
         Ok(text) => Ok(Report {
             text,
             has_refused: false,
@@ -72,12 +76,17 @@ pub fn listing_or_refusal(
 
 /// The listing of a launch, or why it is refused.
 #[tactic(auto, unfolding(crate::specs::Listing::listing_of))]
-fn list_launch(alloc: Global, loaded: LoadedLaunch<'_>, lanes: Lanes) -> Result<Vec<u8>, AuditFault>
+fn list_launch<W: Reasons>(
+    alloc: Global,
+    loaded: LoadedLaunch<'_>,
+    lanes: Lanes,
+    reasons: &mut W,
+) -> Result<Vec<u8>, AuditFault>
     ensures text { Answers AuditFault.NoMemory (λ text. text.items) result
         (listing_of loaded.entry.launch.now.launch (bytes_of_files loaded.entry.files.now)) }
     ensures confirmed { IfOk result (λ text. ReplayAnswer text.items (Ok tt)) }
 {
-    let commands = lay_out(alloc, loaded, lanes)?;
+    let commands = lay_out(alloc, loaded, lanes, reasons)?;
     let text = print(alloc, &commands)?;
     Ok(text)
 }

@@ -10,7 +10,7 @@ use crate::commands::LaunchCommands;
 use crate::known_pages::KnownPages;
 use crate::laying_out::lay_out;
 use refusal::NoMemory;
-use rim_accepted::{AuditFault, LoadedLaunch, Report, push_digest, refused_report};
+use rim_accepted::{AuditFault, LoadedLaunch, Reasons, Report, push_digest, refused_report};
 use rim_desc::{Algo, Command, Lanes, Measurement, extends};
 use rmi_line::print_traced;
 use rmm_monitor::{Monitor, is_runnable};
@@ -18,19 +18,20 @@ use std::alloc::Global;
 
 /// The trace of a launch: a line for each command that creates or extends the Realm Initial Measurement, with
 /// the measurement that a monitor holds after it (64 or 128 hexadecimal digits), a space, and the command's words but for the
-/// granules that the host chooses. Or, where the launch is refused, its line of a report: `NAME refused KIND`.
-/// Pages are hashed in as many lanes.
-pub fn trace_or_refusal(
+/// granules that the host chooses. Or, where the launch is refused, its line of a report: `NAME refused KIND`, and
+/// `reasons` is told why. Pages are hashed in as many lanes.
+pub fn trace_or_refusal<W: Reasons>(
     alloc: Global,
     lanes: Lanes,
     loaded: LoadedLaunch<'_>,
+    reasons: &mut W,
 ) -> Result<Report, NoMemory>
     ensures text { IfOk result (λ r. r.text.items ≡ shown_trace_of
         (bytes_of_files loaded.entry.files.now) loaded.entry.launch.now) }
     ensures refused { IfOk result (λ r. r.has_refused ≡ is_err
         (trace_of loaded.entry.launch.now.launch (bytes_of_files loaded.entry.files.now))) }
 {
-    match trace_launch(alloc, loaded, lanes) {
+    match trace_launch(alloc, loaded, lanes, reasons) {
         Ok(text) => Ok(Report {
             text,
             has_refused: false,
@@ -41,15 +42,16 @@ pub fn trace_or_refusal(
 
 /// The trace of a launch, or why it is refused.
 #[tactic(auto, unfolding(crate::specs::Trace::trace_of))]
-fn trace_launch(
+fn trace_launch<W: Reasons>(
     alloc: Global,
     loaded: LoadedLaunch<'_>,
     lanes: Lanes,
+    reasons: &mut W,
 ) -> Result<Vec<u8>, AuditFault>
     ensures { Answers AuditFault.NoMemory (λ text. text.items) result
         (trace_of loaded.entry.launch.now.launch (bytes_of_files loaded.entry.files.now)) }
 {
-    let commands = lay_out(alloc, loaded, lanes)?;
+    let commands = lay_out(alloc, loaded, lanes, reasons)?;
     let text = trace(alloc, &commands)?;
     Ok(text)
 }

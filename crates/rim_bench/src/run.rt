@@ -4,8 +4,8 @@ use crate::digest::Digest;
 use crate::job::{Job, Shape};
 use crate::manifest::manifest;
 use rim_release::{
-    Files, Gate, JobId, Lanes, LoadedRelease, audit_with_gate, listing_or_refusal, measure_release,
-    read_manifest, replay, report_alone,
+    Files, Gate, JobId, Lanes, LoadedRelease, Unasked, audit_with_gate, listing_or_refusal,
+    measure_release, read_manifest, replay, report_alone,
 };
 use std::alloc::{AllocError, Global};
 use std::sync::Wait;
@@ -70,7 +70,9 @@ pub fn run<R: Threads + Wait + Sync>(
     let loaded = LoadedRelease::new(&release, &files);
     match job {
         Job::Audit => {
-            let report = audit_with_gate(alloc, &gate, loaded).map_err(|_| Fault::NoMemory)?;
+            let report = audit_with_gate(alloc, &gate, loaded, &mut Unasked).map_err(
+                |_| Fault::NoMemory,
+            )?;
             found.add(report.text.as_slice());
         }
         Job::List => listed(alloc, lanes, loaded, &mut found)?,
@@ -110,7 +112,7 @@ fn listed(
     found: &mut Digest,
 ) -> Result<(), Fault> {
     for i in 0..loaded.release.launches() {
-        let shown = listing_or_refusal(alloc, lanes, loaded.launch(i));
+        let shown = listing_or_refusal(alloc, lanes, loaded.launch(i), &mut Unasked);
         let shown = shown.map_err(|_| Fault::NoMemory)?;
         found.add(shown.text.as_slice());
         if replay(alloc, shown.text.as_slice()).is_err() {

@@ -1,15 +1,14 @@
 //! What is said after a fault or a refusal to a person at a terminal, or to one who asks for it: why, as `rim check` says it, or which file it
 //! is about. That it is true is tested alone.
+use crate::aside::Aside;
 use crate::checking::{check_path, failure_text};
-use crate::found::read_launch;
 use crate::program::Terminals;
 use file_front::{devicetree_front, image_front};
 use refusal::NoMemory;
-use rim_accepted::accept;
-use rim_check::{MarkedLine, Nearest, Remark, refusal_remark};
+use rim_check::{MarkedLine, Nearest, Remark};
 use rim_files::{Fault, Opener, Unread, read_or_why};
 use rim_release::{ShowFault, read_manifest};
-use rim_words::{Ask, LaunchAsk, ManifestAsk, Request};
+use rim_words::{Ask, Request};
 use shown_text::{Line, Quoted, Word};
 use std::alloc::Global;
 use std::fmt::Write as _;
@@ -25,18 +24,22 @@ pub fn is_explained(request: &Request, terminals: Terminals) -> bool {
     request.explain || terminals.err
 }
 
-/// Writes why a request was refused with this fault, where that is explained. Nothing is written where its files say something else now, or
-/// memory runs out.
+/// Writes why a request was refused with this fault, where that is explained: what `aside` has of a launch that is refused, else what its
+/// files say. Nothing is written where they say something else now, or memory runs out.
 pub fn advise<O: Opener, E: Write>(
     alloc: Global,
     request: &Request,
     terminals: Terminals,
     fault: Fault,
+    aside: &Aside,
     opener: &mut O,
     err: &mut E,
 ) {
     if !is_explained(request, terminals) || fault.status() != FAULT {
         return;
+    }
+    if matches!(fault, Fault::Refused(_)) {
+        return write_remarks(alloc, &aside.refusals, err);
     }
     if let Ok(line) = advice(alloc, opener, request, fault) {
         write_line(line.as_slice(), err);
@@ -44,21 +47,23 @@ pub fn advise<O: Opener, E: Write>(
 }
 
 /// Writes why launches are refused, where the words ask for it and the text of this status has a word alone: a line for each.
-pub fn explain_refusals<O: Opener, E: Write>(
+pub fn explain_refusals<E: Write>(
     alloc: Global,
     request: &Request,
     status: u8,
-    opener: &mut O,
+    aside: &Aside,
     err: &mut E,
 ) {
-    if !request.explain || status != REFUSED {
-        return;
+    if request.explain && status == REFUSED {
+        write_remarks(alloc, &aside.refusals, err);
     }
-    if let Ok(remarks) = refusals(alloc, opener, request) {
-        for remark in &remarks {
-            if let Ok(line) = line_of(alloc, remark) {
-                write_line(line.as_slice(), err);
-            }
+}
+
+/// Writes a line for each remark.
+fn write_remarks<E: Write>(alloc: Global, remarks: &[Remark], err: &mut E) {
+    for remark in remarks {
+        if let Ok(line) = line_of(alloc, remark) {
+            write_line(line.as_slice(), err);
         }
     }
 }
@@ -127,10 +132,6 @@ fn advice<O: Opener>(
         Ask::Launch { launch, .. } => match fault {
             Fault::NoSuchLaunch => launch_advice(alloc, opener, path, launch),
             Fault::NoDevicetree => no_devicetree(alloc, launch),
-            Fault::Refused(_) => match refusal(alloc, opener, path, launch)? {
-                Some(remark) => line_of(alloc, &remark),
-                None => Ok(Vec::new(alloc)),
-            },
             _ => fault_advice(alloc, opener, path, fault),
         },
         Ask::File(_) => file_advice(alloc, opener, path, fault),
@@ -189,56 +190,6 @@ fn no_devicetree(alloc: Global, launch: &str) -> Result<Vec<u8>, NoMemory> {
     let quoted = Quoted(launch);
     write!(line, "launch {quoted} has no item of the kind \"dtb\"").map_err(|_| NoMemory)?;
     Ok(Vec::from_slice(alloc, line.as_slice())?)
-}
-
-/// The remark on a launch that is refused.
-fn refusal<O: Opener>(
-    alloc: Global,
-    opener: &mut O,
-    manifest: &str,
-    launch: &str,
-) -> Result<Option<Remark>, NoMemory> {
-    let Ok(found) = read_launch(alloc, opener, manifest, launch) else {
-        return Ok(None);
-    };
-    let loaded = found.loaded();
-    match accept(alloc, loaded)? {
-        Ok(_) => Ok(None),
-        Err(reason) => Ok(Some(refusal_remark(alloc, loaded.launch, loaded.files, &reason)?)),
-    }
-}
-
-/// The remarks on the launches that a request is about and that are refused. A map, and a check, say it themselves.
-fn refusals<O: Opener>(
-    alloc: Global,
-    opener: &mut O,
-    request: &Request,
-) -> Result<Vec<Remark>, NoMemory> {
-    let path = request.path;
-    match request.ask {
-        Ask::Manifest(ManifestAsk::Measure { .. } | ManifestAsk::Audit) => {
-            match check_path(alloc, opener, path, true, &mut None) {
-                Ok(found) => Ok(found.faults),
-                Err(_) => Ok(Vec::new(alloc)),
-            }
-        }
-        Ask::Launch {
-            launch,
-            ask: LaunchAsk::List | LaunchAsk::Trace,
-        } => {
-            let mut remarks = Vec::new(alloc);
-            if let Some(remark) = refusal(alloc, opener, path, launch)? {
-                remarks.push(remark)?;
-            }
-            Ok(remarks)
-        }
-        Ask::Manifest(ManifestAsk::Check { .. })
-        | Ask::Launch {
-            ask: LaunchAsk::Map { .. } | LaunchAsk::Dtb,
-            ..
-        }
-        | Ask::File(_) => Ok(Vec::new(alloc)),
-    }
 }
 
 /// Why a file that is no manifest is refused.

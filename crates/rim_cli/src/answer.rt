@@ -12,6 +12,7 @@ ghost use Rattle.rim_show.specs.ShownImage.{image_answer_of};
 ghost use Rattle.rim_cli.specs.Done.{IsAnswer, IsAudit, IsDevicetree, IsListing, IsManifestFault, IsReport, IsReportAsJson, IsReportOf, IsTrace, Refuses, RefusesAudit, RefusesDtb, RefusesFdt, RefusesImage, RefusesListing, RefusesManifest, RefusesReport};
 ghost use Rattle.rim_files.specs.Files.{AreRead, IfFile};
 
+use crate::aside::Aside;
 use crate::checking::check;
 use crate::found::{read_launch, read_release, release_in};
 use crate::freed::keep_freed_memory;
@@ -19,7 +20,7 @@ use crate::mapping::map;
 use crate::replaying::replay;
 use file_digests::{Digested, measure_with_digests};
 use refusal::NoMemory;
-use rim_check::{MarkedLine, refusals};
+use rim_check::refusals;
 use rim_files::{Fault, Opener, read_file, read_files};
 use rim_json::json_report;
 use rim_release::{
@@ -41,14 +42,14 @@ pub struct Answer {
     pub status: u8,
 }
 
-/// The answer to a request, or the first fault. The gate is called by workers, and by an audit. `mark` becomes what a check marks.
+/// The answer to a request, or the first fault. The gate is called by workers, and by an audit. `aside` gets what is said beside it.
 pub fn answer_to<R: Threads + Wait + Sync, G: Gate + Sync, O: Opener>(
     rt: &R,
     alloc: Global,
     gate: &mut G,
     request: Request,
     opener: &mut O,
-    mark: &mut Option<MarkedLine>,
+    aside: &mut Aside,
 ) -> Result<Answer, Fault>
     requires { HasCrew request.ask }
     ensures answered { IfOk result (λ a. IfFile (O.held opener.old request.entry.path.now)
@@ -60,9 +61,9 @@ pub fn answer_to<R: Threads + Wait + Sync, G: Gate + Sync, O: Opener>(
 {
     let path = request.path;
     match request.ask {
-        Ask::Manifest(ask) => manifest_answer(rt, alloc, gate, opener, path, ask, mark),
+        Ask::Manifest(ask) => manifest_answer(rt, alloc, gate, opener, path, ask, aside),
         Ask::Launch { launch, ask } => {
-            launch_answer(alloc, gate.lanes(), opener, path, launch, ask)
+            launch_answer(alloc, gate.lanes(), opener, path, launch, ask, aside)
         }
         Ask::File(ask) => file_answer(alloc, opener, path, ask),
     }
@@ -76,7 +77,7 @@ fn manifest_answer<R: Threads + Wait + Sync, G: Gate + Sync, O: Opener>(
     opener: &mut O,
     path: &str,
     ask: ManifestAsk,
-    mark: &mut Option<MarkedLine>,
+    aside: &mut Aside,
 ) -> Result<Answer, Fault>
     requires { HasCrew (Ask.Manifest ask) }
     ensures answered { IfOk result (λ a. IfFile (O.held opener.old path.now)
@@ -88,10 +89,12 @@ fn manifest_answer<R: Threads + Wait + Sync, G: Gate + Sync, O: Opener>(
 {
     match ask {
         ManifestAsk::Measure { workers, format } => {
-            measure(rt, alloc, gate, opener, path, workers, format)
+            measure(rt, alloc, gate, opener, path, workers, format, aside)
         }
-        ManifestAsk::Audit => audit(alloc, gate, opener, path),
-        ManifestAsk::Check { quiet, format } => check(alloc, opener, path, quiet, format, mark),
+        ManifestAsk::Audit => audit(alloc, gate, opener, path, aside),
+        ManifestAsk::Check { quiet, format } => {
+            check(alloc, opener, path, quiet, format, &mut aside.mark)
+        }
     }
 }
 
@@ -103,6 +106,7 @@ fn launch_answer<O: Opener>(
     path: &str,
     launch: &str,
     ask: LaunchAsk,
+    aside: &mut Aside,
 ) -> Result<Answer, Fault>
     ensures answered { IfOk result (λ a. IfFile (O.held opener.old path.now)
         (λ bytes. IsAnswer (O.held opener.old) (Ask.Launch launch.entry ask) path.now bytes
@@ -112,10 +116,10 @@ fn launch_answer<O: Opener>(
     ensures status { IfOk result (λ a. a.status ≤ 1) }
 {
     match ask {
-        LaunchAsk::List => list(alloc, lanes, opener, path, launch),
-        LaunchAsk::Trace => trace(alloc, lanes, opener, path, launch),
+        LaunchAsk::List => list(alloc, lanes, opener, path, launch, aside),
+        LaunchAsk::Trace => trace(alloc, lanes, opener, path, launch, aside),
         LaunchAsk::Map { format } => map(alloc, opener, path, launch, format),
-        LaunchAsk::Dtb => dtb(alloc, opener, path, launch),
+        LaunchAsk::Dtb => dtb(alloc, opener, path, launch, aside),
     }
 }
 
@@ -149,6 +153,7 @@ fn measure<R: Threads + Wait + Sync, G: Gate + Sync, O: Opener>(
     path: &str,
     workers: u8,
     format: Format,
+    aside: &mut Aside,
 ) -> Result<Answer, Fault>
     requires { IsCrew workers }
     ensures answered { IfOk result (λ a. IfFile (O.held opener.old path.now) (λ bytes. IsOkAnd
@@ -162,7 +167,7 @@ fn measure<R: Threads + Wait + Sync, G: Gate + Sync, O: Opener>(
     let release = release_in(alloc, text.as_slice())?;
     let files = read_files(alloc, opener, &release)?;
     let loaded = LoadedRelease::new(&release, &files);
-    let report = report(rt, alloc, gate, path, &text, loaded, workers, format);
+    let report = report(rt, alloc, gate, path, &text, loaded, workers, format, aside);
     Ok(answer_of(report.map_err(Fault::Start)?))
 }
 
@@ -176,6 +181,7 @@ fn report<R: Threads + Wait + Sync, G: Gate + Sync>(
     loaded: LoadedRelease<'_>,
     workers: u8,
     format: Format,
+    aside: &mut Aside,
 ) -> Result<Report, StartFault>
     requires { IsCrew workers }
     ensures text { IfOk result (λ r. IsReportOf format path.now bytes.now
@@ -186,6 +192,7 @@ fn report<R: Threads + Wait + Sync, G: Gate + Sync>(
         (bytes_of_files loaded.entry.files.now) loaded.entry.release.now.launches) }
 {
     let accepted = accept_all(alloc, loaded)?;
+    aside.add_refusals(&accepted);
     match format {
         Format::Text => {
             let outcome = measure_accepted(rt, alloc, gate, &accepted, workers as usize)?;
@@ -242,6 +249,7 @@ fn list<O: Opener>(
     opener: &mut O,
     path: &str,
     launch: &str,
+    aside: &mut Aside,
 ) -> Result<Answer, Fault>
     ensures answered { IfOk result (λ a. IfFile (O.held opener.old path.now) (λ bytes. IsOkAnd
         (manifest_of bytes)
@@ -251,7 +259,7 @@ fn list<O: Opener>(
     ensures status { IfOk result (λ a. a.status ≤ 1) }
 {
     let found = read_launch(alloc, opener, path, launch)?;
-    match listing_or_refusal(alloc, lanes, found.loaded()) {
+    match listing_or_refusal(alloc, lanes, found.loaded(), aside) {
         Ok(report) => Ok(answer_of(report)),
         Err(_) => Err(Fault::NoMemory),
     }
@@ -264,6 +272,7 @@ fn trace<O: Opener>(
     opener: &mut O,
     path: &str,
     launch: &str,
+    aside: &mut Aside,
 ) -> Result<Answer, Fault>
     ensures answered { IfOk result (λ a. IfFile (O.held opener.old path.now) (λ bytes. IsOkAnd
         (manifest_of bytes)
@@ -273,14 +282,20 @@ fn trace<O: Opener>(
     ensures status { IfOk result (λ a. a.status ≤ 1) }
 {
     let found = read_launch(alloc, opener, path, launch)?;
-    match trace_or_refusal(alloc, lanes, found.loaded()) {
+    match trace_or_refusal(alloc, lanes, found.loaded(), aside) {
         Ok(report) => Ok(answer_of(report)),
         Err(_) => Err(Fault::NoMemory),
     }
 }
 
 /// The devicetree of a manifest's launch, as it is placed.
-fn dtb<O: Opener>(alloc: Global, opener: &mut O, path: &str, launch: &str) -> Result<Answer, Fault>
+fn dtb<O: Opener>(
+    alloc: Global,
+    opener: &mut O,
+    path: &str,
+    launch: &str,
+    aside: &mut Aside,
+) -> Result<Answer, Fault>
     ensures answered { IfOk result (λ a. IfFile (O.held opener.old path.now) (λ bytes. IsOkAnd
         (manifest_of bytes)
         (λ r. IsDevicetree (O.held opener.old) r launch.now a.text.items a.status))) }
@@ -289,7 +304,7 @@ fn dtb<O: Opener>(alloc: Global, opener: &mut O, path: &str, launch: &str) -> Re
     ensures status { IfOk result (λ a. a.status ≤ 1) }
 {
     let found = read_launch(alloc, opener, path, launch)?;
-    match placed_devicetree(alloc, found.loaded()) {
+    match placed_devicetree(alloc, found.loaded(), aside) {
         Ok(Some(text)) => Ok(Answer { text, status: 0 }),
         Ok(None) => Err(Fault::NoDevicetree),
         Err(fault) => Err(Fault::Refused(fault)),
@@ -302,6 +317,7 @@ fn audit<G: Gate, O: Opener>(
     gate: &G,
     opener: &mut O,
     path: &str,
+    aside: &mut Aside,
 ) -> Result<Answer, Fault>
     ensures answered { IfOk result (λ a. IfFile (O.held opener.old path.now) (λ bytes. IsOkAnd
         (manifest_of bytes) (λ r. IsAudit (O.held opener.old) r a.text.items a.status))) }
@@ -312,9 +328,8 @@ fn audit<G: Gate, O: Opener>(
     let release = read_release(alloc, opener, path)?;
     let files = read_files(alloc, opener, &release)?;
     keep_freed_memory(alloc);
-    let report = audit_with_gate(alloc, gate, LoadedRelease::new(&release, &files)).map_err(
-        |_| Fault::NoMemory,
-    )?;
+    let loaded = LoadedRelease::new(&release, &files);
+    let report = audit_with_gate(alloc, gate, loaded, aside).map_err(|_| Fault::NoMemory)?;
     Ok(answer_of(report))
 }
 

@@ -3,6 +3,7 @@
 
 mod advice;
 mod answer;
+mod aside;
 mod checking;
 mod found;
 mod freed;

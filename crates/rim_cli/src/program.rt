@@ -10,6 +10,7 @@ ghost use Rattle.rim_files.specs.Status.{status_of, unreadable_status};
 
 use crate::advice::{advise, explain_refusals, is_explained, show_mark, show_unsaved};
 use crate::answer::{Answer, answer_to};
+use crate::aside::Aside;
 use clap::error::ErrorKind as UsageKind;
 use rim_files::{Fault, Opener};
 use rim_release::Gate;
@@ -105,17 +106,17 @@ fn run_request<R: Threads + Wait + Sync, G: Gate + Sync, O: Opener, W: Write, E:
         (O.held opener.new) (out.new ≡ out.old) (W.contents out.old) (W.contents out.new) result }
     ensures kept { result ≡ 4 → out.new ≡ out.old }
 {
-    let mut mark = None;
-    match answer_to(rt, alloc, gate, request, opener, &mut mark) {
+    let mut aside = Aside::new(alloc, is_explained(&request, terminals));
+    match answer_to(rt, alloc, gate, request, opener, &mut aside) {
         Ok(answer) => {
-            explain_refusals(alloc, &request, answer.status, opener, err);
+            explain_refusals(alloc, &request, answer.status, &aside, err);
             let status = deliver(alloc, &request, answer, terminals, opener, out, err);
-            show_mark(&request, terminals, mark, err);
+            show_mark(&request, terminals, aside.mark.take(), err);
             status
         }
         Err(fault) => {
             let status = report_fault(fault, err);
-            advise(alloc, &request, terminals, fault, opener, err);
+            advise(alloc, &request, terminals, fault, &aside, opener, err);
             status
         }
     }

@@ -4,7 +4,7 @@
 pub use job_board::JobId;
 pub use job_workers::{FreeGate, Gate};
 pub use rim_accepted::{
-    AcceptedRelease, AuditFault, Files, LoadedLaunch, LoadedRelease, Report,
+    AcceptedRelease, AuditFault, Files, LoadedLaunch, LoadedRelease, Reasons, Report, Unasked,
     a_line_says_what_a_monitor_holds, accept_all, devicetrees_are_measured, placed_devicetree,
 };
 pub use rim_audit::{

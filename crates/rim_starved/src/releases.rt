@@ -14,8 +14,8 @@ use rim_json::json_report;
 use rim_map::{RefusedLaunch, map_json, map_text, refused_json, refused_text};
 use rim_release::{
     AcceptedRelease, AuditFault, Files, Gate, JobId, LoadedLaunch, LoadedRelease, Outcome, Release,
-    Report, StartFault, accept_all, audit, audit_report, listing, measure_alone, measure_release,
-    placed_devicetree, read_manifest, trace_or_refusal,
+    Report, StartFault, Unasked, accept_all, audit, audit_report, listing, measure_alone,
+    measure_release, placed_devicetree, read_manifest, trace_or_refusal,
 };
 use shown_text::{Remark, Word};
 use std::alloc::{AllocError, Global};
@@ -69,12 +69,21 @@ fn first_launch<R: Print + AllocGlobal>(
             tried!(trial, audit(alloc, release, files, 0) => value_digest, AuditFault::NoMemory),
         ReleaseCall::Listing =>
             tried!(trial, listing(alloc, release, files, 0) => text_digest, AuditFault::NoMemory),
-        ReleaseCall::Trace =>
-            tried!(trial, trace_or_refusal(alloc, Lanes::Four, first) => report_digest, NoMemory),
+        ReleaseCall::Trace => tried!(trial, traced(alloc, first) => report_digest, NoMemory),
         ReleaseCall::MapText => mapped(trial, release, first, false),
         ReleaseCall::MapJson => mapped(trial, release, first, true),
-        _ => tried!(trial, placed_devicetree(alloc, first) => bytes_digest, AuditFault::NoMemory),
+        _ => tried!(trial, placed(alloc, first) => bytes_digest, AuditFault::NoMemory),
     }
+}
+
+/// The trace of a launch, of which nobody asks why it is refused.
+fn traced(alloc: Global, launch: LoadedLaunch<'_>) -> Result<Report, NoMemory> {
+    trace_or_refusal(alloc, Lanes::Four, launch, &mut Unasked)
+}
+
+/// The devicetree of a launch, in the same way.
+fn placed(alloc: Global, launch: LoadedLaunch<'_>) -> Result<Option<Vec<u8>>, AuditFault> {
+    placed_devicetree(alloc, launch, &mut Unasked)
 }
 
 /// The map of a launch, accepted or refused.

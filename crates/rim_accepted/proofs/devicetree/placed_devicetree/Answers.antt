@@ -6,7 +6,7 @@ use Rattle.rim_accepted.proofs.devicetree.placed_devicetree.Goals as goal
 
 pub returns-in-Err : goal.returns-in-Err
 unfolding devicetree_of
-returns-in-Err c =
+returns-in-Err g c =
     let launch = c.args.loaded.launch.now.launch in
     let files = bytes_of_files c.args.loaded.files.now in
     let refused = refused-accepted launch files c.in-Err.reason (rw c.in-Err.is at c.in_ok-accepted.ensures.reason) in

@@ -6,13 +6,13 @@ use Rattle.rim_accepted.proofs.OutcomesInTurn.{accepted-place}
 use Rattle.rim_audit.proofs.laying_out.lay_out.Goals as goal
 
 pub returns-in-Ok-clause-commands : goal.returns-in-Ok-clause-commands
-returns-in-Ok-clause-commands c =
+returns-in-Ok-clause-commands g c =
     let a = c.in-Ok.listed.accepted in
     let own = rw c.in-Ok.is at c.in_ok-listed.ensures.own in
     rw (← own.0, ← own.1) (commands-are a.named.now.launch (bytes_of_files a.files.now) a.placed c.in-Ok.listed.plan (accepted-place a) c.in-Ok.listed.is_plan)
 
 pub returns-in-Err-clause-commands : goal.returns-in-Err-clause-commands
-returns-in-Err-clause-commands c =
+returns-in-Err-clause-commands g c =
     let refused = rw c.in-Err.is at c.in_ok-listed.ensures.refused in
     let files = bytes_of_files c.args.loaded.files.now in
     inr (rw c.fault.ensures (commands-refused c.args.loaded.launch.now.launch files (audit_fault_of c.in-Err.reason) refused.refused))
