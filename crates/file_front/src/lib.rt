@@ -5,4 +5,4 @@ mod kernel;
 mod shown;
 
 pub use kernel::{KernelFront, front_of};
-pub use shown::{devicetree_front, devicetree_text, image_front};
+pub use shown::{DevicetreeFront, image_front};

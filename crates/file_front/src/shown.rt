@@ -3,6 +3,7 @@ use crate::kernel::{KernelFront, front_of};
 use arm64_image::ImageFault;
 use fdt_tree::FdtFault;
 use std::alloc::{AllocError, Global};
+use std::fmt;
 
 /// The first bytes of the source of a devicetree (Devicetree Specification, "Devicetree Source (DTS) Format").
 const SOURCE: &[u8] = b"/dts-v1/";
@@ -29,42 +30,53 @@ pub fn image_front(alloc: Global, bytes: &[u8], fault: ImageFault) -> Result<Str
 }
 
 /// What a file is that is no devicetree, by its first bytes, or else why it is none.
-pub fn devicetree_front(
-    alloc: Global,
-    bytes: &[u8],
-    fault: FdtFault,
-) -> Result<String, AllocError> {
-    if bytes.starts_with(SOURCE) {
-        return format!(in alloc;
-            "it is the source of a devicetree: give what `dtc -O dtb` makes of it"
-        );
+#[derive(Clone, Copy)]
+pub struct DevicetreeFront<'a> {
+    pub bytes: &'a [u8],
+    pub fault: FdtFault,
+}
+
+impl DevicetreeFront<'_> {
+    /// Whether the file is the source of a devicetree.
+    fn is_source(&self) -> bool {
+        self.bytes.starts_with(SOURCE)
     }
-    if bytes
-        .get(MAGIC_AT..)
-        .is_some_and(|rest| rest.starts_with(MAGIC))
-    {
-        return format!(in alloc; "it is an arm64 Image and no devicetree");
+
+    /// Whether it has the magic number of an arm64 Image.
+    fn is_image(&self) -> bool {
+        let rest = self.bytes.get(MAGIC_AT..);
+        rest.is_some_and(|rest| rest.starts_with(MAGIC))
     }
-    match front_of(bytes) {
-        Some(KernelFront::Packed(word)) => {
-            format!(in alloc; "it is packed by {word}: give the unpacked devicetree")
+}
+
+impl fmt::Display for DevicetreeFront<'_> {
+    fn fmt<W: fmt::Write>(&self, f: &mut fmt::Formatter<W>) -> fmt::Result {
+        if self.is_source() {
+            return f.write_str(
+                "it is the source of a devicetree: give what `dtc -O dtb` makes of it",
+            );
         }
-        Some(KernelFront::Elf) => format!(in alloc; "it is an ELF file and no devicetree"),
-        Some(KernelFront::Efi | KernelFront::EfiZboot) => {
-            format!(in alloc; "it is an EFI program and no devicetree")
+        if self.is_image() {
+            return f.write_str("it is an arm64 Image and no devicetree");
         }
-        Some(KernelFront::UBoot) => {
-            format!(in alloc; "it is an image of U-Boot: give the devicetree that is in it")
-        }
-        Some(KernelFront::Devicetree) | None => {
-            let why = devicetree_text(fault);
-            format!(in alloc; "{why}")
+        match front_of(self.bytes) {
+            Some(KernelFront::Packed(word)) => {
+                write!(f, "it is packed by {word}: give the unpacked devicetree")
+            }
+            Some(KernelFront::Elf) => f.write_str("it is an ELF file and no devicetree"),
+            Some(KernelFront::Efi | KernelFront::EfiZboot) => {
+                f.write_str("it is an EFI program and no devicetree")
+            }
+            Some(KernelFront::UBoot) => {
+                f.write_str("it is an image of U-Boot: give the devicetree that is in it")
+            }
+            Some(KernelFront::Devicetree) | None => f.write_str(devicetree_text(self.fault)),
         }
     }
 }
 
 /// What is wrong with a devicetree (Devicetree Specification, "Flattened Devicetree (DTB) Format").
-pub fn devicetree_text(fault: FdtFault) -> &'static str {
+fn devicetree_text(fault: FdtFault) -> &'static str {
     match fault {
         FdtFault::Short => "it has fewer than the 40 bytes of a header",
         FdtFault::BadMagic => "it does not begin with the bytes d0 0d fe ed",

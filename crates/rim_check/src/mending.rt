@@ -1,7 +1,6 @@
 //! What helps to mend a launch that is refused, beside the reason. That it is true of the launch is tested alone.
 
-use fdt_tree::FdtFault;
-use file_front::{KernelFront, devicetree_text, front_of};
+use file_front::{DevicetreeFront, KernelFront, front_of};
 use ipa_layout::{Extent, IpaRange, ItemReason, LayoutReason};
 use rim_accepted::LaunchReason;
 use rim_desc::GRANULE_SIZE;
@@ -22,8 +21,8 @@ pub(crate) enum Mending<'a> {
     Nothing,
     /// What the file of its kernel is.
     Kernel(KernelFront),
-    /// What is wrong with its devicetree.
-    Devicetree(FdtFault),
+    /// What the file of its devicetree is, or what is wrong with it.
+    Devicetree(DevicetreeFront<'a>),
     /// Which RAM there is.
     Ram(&'a [Region]),
     /// The width of an IPA that is given, and the least one that holds all RAM, if one does.
@@ -55,7 +54,7 @@ impl fmt::Display for Mending<'_> {
         match *self {
             Mending::Nothing => Ok(()),
             Mending::Kernel(front) => write!(f, "{front}"),
-            Mending::Devicetree(fault) => f.write_str(devicetree_text(fault)),
+            Mending::Devicetree(front) => write!(f, "{front}"),
             Mending::Ram(regions) => write_ram(f, regions),
             Mending::Width {
                 given,
@@ -156,7 +155,10 @@ fn item_mending<'a>(
             Some(front) => Mending::Kernel(front),
             None => Mending::Nothing,
         },
-        ItemReason::Edits(fault) => Mending::Devicetree(*fault),
+        ItemReason::Edits(fault) => Mending::Devicetree(DevicetreeFront {
+            bytes: file_of(launch, files, item),
+            fault: *fault,
+        }),
         ItemReason::OutsideRam { .. } => Mending::Ram(launch.ram()),
         _ => Mending::Nothing,
     }

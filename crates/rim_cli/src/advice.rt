@@ -3,7 +3,7 @@
 use crate::aside::Aside;
 use crate::checking::{check_path, failure_text};
 use crate::program::Terminals;
-use file_front::{devicetree_front, image_front};
+use file_front::{DevicetreeFront, image_front};
 use refusal::NoMemory;
 use rim_check::{MarkedLine, Nearest, Remark};
 use rim_files::{Fault, Opener, Unread, read_or_why};
@@ -206,7 +206,10 @@ fn file_advice<O: Opener>(
     let bytes = bytes.as_slice();
     let text = match fault {
         Fault::Show(ShowFault::Image(fault)) => image_front(alloc, bytes, fault)?,
-        Fault::Show(ShowFault::Dtb(fault)) => devicetree_front(alloc, bytes, fault)?,
+        Fault::Show(ShowFault::Dtb(fault)) => {
+            let front = DevicetreeFront { bytes, fault };
+            format!(in alloc; "{front}")?
+        }
         _ => String::new(alloc),
     };
     named(alloc, path, text.as_str())
