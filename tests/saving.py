@@ -114,13 +114,19 @@ def new_mode(program: str) -> list[str]:
 
 
 def linked(program: str) -> list[str]:
-    """Where a link leads to a file in another folder, that file is replaced."""
+    """Where a link leads to a file in another folder, that file is replaced, or made."""
     with Here(program) as here:
         here.put("kept/out", b"old")
         os.symlink("kept/out", os.path.join(here.path, "link"))
         wrong = differs("a run", here.start(*REPORT, "-o", "link"), (1, b"", ""))
         wrong += differs("the link", os.readlink(os.path.join(here.path, "link")), "kept/out")
-        return wrong + differs("the file", here.read("kept/out"), here.report()) + differs("beside it", os.listdir(os.path.join(here.path, "kept")), ["out"])
+        wrong += differs("the file", here.read("kept/out"), here.report()) + differs("beside it", os.listdir(os.path.join(here.path, "kept")), ["out"])
+        os.symlink("kept/new", os.path.join(here.path, "early"))
+        wrong += differs("a run where a link leads to nothing yet", here.start(*REPORT, "-o", "early"), (1, b"", ""))
+        wrong += differs("that link", os.readlink(os.path.join(here.path, "early")), "kept/new") + differs("its file", here.read("kept/new"), here.report())
+        os.symlink("none/out", os.path.join(here.path, "lost"))
+        status, output, _ = here.start(*REPORT, "-o", "lost")
+        return wrong + differs("a link into no folder", (status, output), (3, b""))
 
 
 def in_folders(program: str) -> list[str]:

@@ -9,7 +9,8 @@ use std::{fs, io};
 const MOST_NAMES: u8 = 100;
 
 /// Makes a file at a path with these bytes. A file that is there is replaced, and keeps its permissions; one that may not be written to is left
-/// as it is. Where a link leads to a file, that one is replaced. What is no file, as a terminal or a pipe, gets the bytes.
+/// as it is. Where a link leads to a file, that one is replaced, and one that is not there yet is made. What is no file, as a terminal or a
+/// pipe, gets the bytes.
 ///
 /// At an error the file is as it was, and the new one is removed.
 pub fn save(rt: &HostRuntime, alloc: Global, path: &str, bytes: &[u8]) -> io::Result<()> {
@@ -21,15 +22,38 @@ pub fn save(rt: &HostRuntime, alloc: Global, path: &str, bytes: &[u8]) -> io::Re
         }
         Ok(_) => write(OpenOptions::new().write(true).open(rt, path)?, bytes),
         Err(error) if error.kind() == ErrorKind::NotFound => {
-            replace(rt, alloc, Path::new(path), bytes, None)
+            if is_link(rt, path) {
+                save_through(rt, alloc, path, bytes)
+            } else {
+                replace(rt, alloc, Path::new(path), bytes, None)
+            }
         }
         Err(error) => Err(error),
     }
 }
 
+/// Makes the file to which a link leads. Only what opens it follows the link, so an empty file is made first.
+fn save_through(rt: &HostRuntime, alloc: Global, path: &str, bytes: &[u8]) -> io::Result<()> {
+    drop(OpenOptions::new().write(true).create(true).open(rt, path)?);
+    let place = fs::canonicalize(rt, path)?;
+    let done = replace(rt, alloc, place.as_path(), bytes, None);
+    if done.is_err() {
+        let _ = fs::remove_file(rt, place.as_path());
+    }
+    done
+}
+
+/// Whether a link is at a path, wherever it leads.
+fn is_link(rt: &HostRuntime, path: &str) -> bool {
+    match fs::symlink_metadata(rt, path) {
+        Ok(found) => found.is_symlink(),
+        Err(_) => false,
+    }
+}
+
 /// The path of a file that is there, or of the one to which a link leads.
 fn place_of(rt: &HostRuntime, alloc: Global, path: &str) -> io::Result<PathBuf> {
-    if fs::symlink_metadata(rt, path)?.is_symlink() {
+    if is_link(rt, path) {
         fs::canonicalize(rt, path)
     } else {
         Ok(PathBuf::from_str(alloc, path)?)
