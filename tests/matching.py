@@ -7,7 +7,6 @@
   measurement. It has to find one change, and the lines that it prints, put into the manifest here, have to give that measurement. The
   same for pairs, and one of three.
 - Lines: each single change of each axis, of several launches, measured as rim-match writes it and as its lines change the manifest.
-- Changes of base launches: of examples, and of an installer as rim-manifest writes them.
 - REC 0's values and the steps that axes write out are the default ones. Launches that begin alike are in one run.
 - What no launch has, forms of the value, wrong words and faults, traces, what a terminal shows, an installed rim-match, its man page.
 
@@ -18,7 +17,6 @@ import contextlib
 import copy
 import io
 import itertools
-import json
 import os
 import re
 import shutil
@@ -27,21 +25,26 @@ import subprocess
 import sys
 import time
 import tomllib
-from collections.abc import Callable, Iterator
 from dataclasses import replace
 
 from helpers import MIB, SCRIPTS, TOP
 from helpers.files import image, tree
 from helpers.folders import Folder
-from helpers.guests import LOW, QEMU, STAND_IN, WITH_INITRD, replaced
+from helpers.guests import LOW
+from helpers.manifests import launch_of, measured, of_name, whole
 from helpers.tries import at_a_time, differs, program_of, told
 
+from finder import search
 from finder.progress import Progress
-from matcher import files, lines, manifests, search
+from finder.runs import Candidate, Outcome
+from matcher import files, lines, manifests, program
 from matcher.axes import AXES
-from matcher.launch import KINDS, Launch, Rec, first_rec, is_whole, manifest_head, table_text
+from matcher.begins import first_rec
+from matcher.launch import KINDS, Launch, Rec, is_whole, manifest_head, table_text
 from matcher.launch import text as launch_text
+from matcher.search import ROUNDS, Near
 from matcher.words import LIMIT, TAKES
+from outside.measurement import Value
 from outside.rim import Rim
 
 START = os.path.join(TOP, "rim-match")
@@ -100,27 +103,6 @@ def folder() -> Folder:
 # ---- a manifest that is changed here
 
 
-def written(value) -> str:
-    """A value in TOML."""
-    if isinstance(value, dict):
-        return "{ " + ", ".join(f"{key} = {written(each)}" for key, each in value.items()) + " }"
-    if isinstance(value, list):
-        return "[" + ", ".join(map(written, value)) + "]"
-    return json.dumps(value)
-
-
-def whole(table: dict) -> str:
-    return "".join(f"{key} = {written(value)}\n" for key, value in table.items())
-
-
-def launch_of(table: dict, name: str) -> dict:
-    return next(each for each in table["launch"] if each["name"] == name)
-
-
-def of_name(launch: dict, name: str) -> dict:
-    return next(each for each in launch["item"] if each["name"] == name)
-
-
 def applied(table: dict, name: str, changes: list[str], blobs: files.Files | None = None):
     """Puts lines that rim-match prints into a manifest; a file that it has made is that of the same words."""
     launch = launch_of(table, name)
@@ -140,15 +122,6 @@ def applied(table: dict, name: str, changes: list[str], blobs: files.Files | Non
         else:
             (key, value), = tomllib.loads(rest).items()
             (table if key == "rim_manifest" else target)[key] = value
-
-
-def measured(program: str, here: Folder, table: dict) -> dict[str, str]:
-    """The measurement of each launch, or why it is refused."""
-    here.put("measured.toml", whole(table).encode())
-    ran = subprocess.run([program, "measure", "measured.toml"], cwd=here.path, capture_output=True, text=True, check=False)
-    if ran.returncode > 1:
-        raise ValueError(ran.stderr.strip())
-    return {line.split(" ")[0]: line.split(" ")[2] for line in ran.stdout.splitlines()[1:-1]}
 
 
 # ---- changes, by the axis that they are of
@@ -304,61 +277,6 @@ def change(program: str, name: str, changed, count: int, is_far: bool = False) -
     return wrong + differs("with the lines: " + "; ".join(rest), measured(program, here, again)[name], value)
 
 
-# ---- base launches: those of examples, and of an installer as rim-manifest writes them
-
-
-EXAMPLES = (("vm", "one-vcpu"), ("vm", "two-vcpus"), ("vm", "two-vcpus-sha512"), ("kernel", "vm"))
-SIZES = [(memory, count) for memory in (256, 1024) for count in (1, 4)]
-CHANGED = ((lambda launch: launch.update(num_bps=launch.get("num_bps", 0) + 1), "num_bps "), (lambda launch: launch.update(s2sz=39), "s2sz 39"),
-           (lambda launch: launch.update(block_level=3), "block_level 3"))
-
-
-def of_example(name: str) -> tuple[Folder, dict]:
-    here = Folder({})
-    os.symlink(os.path.join(TOP, "examples"), os.path.join(here.path, "examples"))
-    return here, tomllib.loads(here.read(f"examples/{name}/manifest.toml").decode())
-
-
-def of_installer() -> tuple[Folder, dict]:
-    """Four launches of one kernel, initrd and command line."""
-    trees = {f"trees/{memory}M-{count}-console=ttyAMA0": tree([(LOW, LOW + memory * MIB)], "console=ttyAMA0", WITH_INITRD, count)
-             for memory, count in SIZES}
-    here = Folder(trees)
-    here.put("stand-in", STAND_IN.encode(), is_program=True)
-    status, out, said = here.run(*replaced(QEMU, "-m", "256M,1024M"), "-smp", "1,4", "-initrd", "initrd", "-append", "console=ttyAMA0", "--algo",
-                                 "sha256", "--qemu", "./stand-in")
-    if status:
-        raise ValueError(f"{out}{said}")
-    table = here.toml()
-    for each in table["file"]:
-        each["path"] = f"out/{each['path']}"
-    return here, table
-
-
-def base(program: str, here: Folder, table: dict, name: str) -> list[str]:
-    """What is changed in a base launch is found."""
-    here.put("base.toml", whole(table).encode())
-    wrong = []
-    for changed, text in CHANGED:
-        again = copy.deepcopy(table)
-        changed(launch_of(again, name))
-        value = measured(program, here, again)[name]
-        status, out, said = here.run("base.toml", name, value, start=START, RIM=program)
-        first = f'launch "{name}" has the value by 1 change: {text}'
-        wrong += differs(f"{text}: {out!r}", (status, without_progress(said), out.startswith(first)), (0, "", True))
-    return wrong
-
-
-def bases(program: str) -> Iterator[tuple[str, Callable[[], list[str]]]]:
-    for folder_, name in EXAMPLES:
-        yield f"launch {name} of examples/{folder_}", lambda folder_=folder_, name=name: base(program, *of_example(folder_), name)
-    for number, (memory, count) in enumerate(SIZES):
-        def look(number=number) -> list[str]:
-            here, table = of_installer()
-            return base(program, here, table, table["launch"][number]["name"])
-        yield f"an installer of {memory} MiB and {count} processors", look
-
-
 def lines_of(program: str, axis, name: str) -> list[str]:
     """Each change of an axis, as it is measured and as its lines change the manifest."""
     here, table = folder(), base_table(name)
@@ -412,35 +330,102 @@ def begins(program: str, name: str) -> list[str]:
     return differs("values", (len(values), all(is_whole(each) for each in (bare, full))), (1, True))
 
 
-def in_runs(program: str) -> list[str]:
+def near(path: str, here: Folder, **others) -> Near:
+    """What is near a base launch of a folder."""
+    table = base_table("plain")
+    return Near(program.begun(Rim(path), here.path, blobs_of(path, here, table)), launch_in(table, "plain"), **others)
+
+
+def in_runs(path: str) -> list[str]:
     """Launches that begin alike are in one run, in their order; a run has no more launches and files than a manifest may."""
-    here, table = folder(), base_table("plain")
-    blobs = blobs_of(program, here, table)
-    rounds = search.Search(None, blobs, None, 3000).rounds_of(launch_in(table, "plain"))
-    given = list(itertools.islice((each for _, launches in rounds for each in launches), 3000))
-    place = {each.table: number for number, each in enumerate(given)}
-    several = list(search.in_runs(given, blobs, 256))
-    wrong = differs("all, once", sorted(place[each.table] for run in several for each in run), list(range(len(given))))
+    here = folder()
+    some = near(path, here)
+    every = itertools.chain.from_iterable(some.launches(count, others) for count, others, _ in ROUNDS)
+    given = list({each.key: each for each in itertools.islice(every, 4000) if each}.values())
+    place = {each.key: number for number, each in enumerate(given)}
+    several = list(search.in_runs(given, 256))
+    wrong = differs("all, once", sorted(place[each.key] for run in several for each in run), list(range(len(given))))
     for run in several:
-        names = {item.file for each in run for item in each.launch.item}
-        wrong += differs("a run", (len(run) <= 256, len(names) <= 64, sorted(run, key=lambda each: place[each.table]) == run), (True, True, True))
-    alike = [sum(each.launch.s2sz == 48 for each in run) for run in several]
+        names = {item.file for each in run for item in each.origin.launch.item}
+        wrong += differs("a run", (len(run) <= 256, len(names) <= 64, sorted(run, key=lambda each: place[each.key]) == run), (True, True, True))
+    alike = [sum(each.origin.launch.s2sz == 48 for each in run) for run in several]
     return wrong + differs(f"those of one width are together: {alike}", sum(count > 0 for count in alike) <= 3, True)
 
 
-def many_steps(program: str) -> list[str]:
+class NeverRuns:
+    """Runs of `rim` by which no launch has the value: they keep what they are given."""
+
+    def __init__(self, hit: object = None):
+        self.given: list[list[Candidate]] = []
+        self.hit = hit
+
+    def outcome(self, launches: list[Candidate], _value: Value) -> Outcome:
+        self.given.append(list(launches))
+        return Outcome(next((place for place, each in enumerate(launches) if each.key == self.hit), None), 0)
+
+
+def engine(limit: int = 10_000, hit: object = None, **others) -> tuple[NeverRuns, search.Search]:
+    runs = NeverRuns(hit)
+    return runs, search.Search(runs, Value("sha256", NEVER), limit, Progress("rim-match"), **others)
+
+
+def launches_of(counts) -> list[Candidate]:
+    return [Candidate(number, f"{number:06}", ((number, count),)) for number, count in enumerate(counts)]
+
+
+def many_steps(path: str) -> list[str]:
     """Launches of many steps come at the end of a round, or in the last one: their places among all, and what is left."""
-    here, table = folder(), base_table("plain")
-    blobs = blobs_of(program, here, table)
-    launch = launch_in(table, "plain")
-    axes = tuple(axis for axis in AXES if axis.name in ("block_level", "num_bps", "num_wps"))
-    some = search.Search(None, blobs, None, 10_000, axes=axes)
+    here = folder()
+    some = near(path, here, axes=tuple(axis for axis in AXES if axis.name in ("block_level", "num_bps", "num_wps")))
     wrong = []
     for count, others, is_left in ((1, 1, False), (2, 2, False), (3, 3, True)):
-        here = [each.launch.block_level == 3 for each in some.launches(launch, count, others)]
-        left = [each.launch.block_level == 3 for each in some.left()]
-        late = left if is_left else here[len(here) - sum(here):]
-        wrong += differs(f"{count}: late ones", (len(late) > 0, all(late), is_left and any(here)), (True, True, False))
+        runs, looked = engine()
+        looked.found("the launch itself", [some.runs.candidate(program.Change((), some.base))])
+        looked.found("a round", some.launches(count, others), vast=some.vast(count, others))
+        tried = [each.origin.launch.block_level == 3 for batch in runs.given for each in batch]
+        left = [each.origin.launch.block_level == 3 for each in looked.left]
+        late = left if is_left else tried[len(tried) - sum(tried):]
+        wrong += differs(f"{count}: late ones", (len(late) > 0, all(late), is_left and any(tried)), (True, True, False))
+        before = len(runs.given)
+        looked.last("what was left")
+        wrong += differs(f"{count}: what was left", (sum(map(len, runs.given[before:])), looked.left), (len(left), []))
+    return wrong
+
+
+def rounds(_path: str) -> list[str]:
+    """What a round says of itself: how many launches were tried, whether these are all, and what has the value."""
+    wrong = []
+    runs, looked = engine()
+    hit = looked.found("ten", [*launches_of([1] * 10), None, *launches_of([1] * 5)])
+    wrong += differs("none has it", (hit, looked.tried, looked.rounds[0].is_whole, len(runs.given[0])), (None, 10, True, 10))
+    looked.found("the same", launches_of([1] * 10))
+    wrong += differs("none is tried twice", (looked.tried, looked.rounds[1].tried, looked.rounds[1].is_whole), (10, 0, True))
+    _, looked = engine(limit=7)
+    looked.found("ten", launches_of([1] * 10))
+    wrong += differs("a limit", (looked.tried, looked.rounds[0].is_whole, looked.is_ended), (7, False, True))
+    _, looked = engine()
+    looked.found("ten", launches_of([1] * 10), most=4)
+    wrong += differs("a round's own limit", (looked.tried, looked.rounds[0].is_whole, looked.is_ended), (4, False, False))
+    _, looked = engine(until=0.0)
+    looked.found("ten", launches_of([1] * 10))
+    wrong += differs("no time", (looked.tried, looked.rounds[0].is_whole, looked.is_over), (0, False, True))
+    _, looked = engine(limit=1)
+    looked.found("none", iter([None] * 100))
+    wrong += differs("nothing but what can't be", (looked.tried, looked.rounds[0].is_whole), (0, False))
+    runs, looked = engine(hit=150)
+    hit = looked.found("many", launches_of([1] * 3000))
+    return wrong + differs("the first that has it", (hit and hit.key, looked.tried, [len(each) for each in runs.given[:3]]), (150, 151, [64, 64, 64]))
+
+
+def fitting(_path: str) -> list[str]:
+    """Where a launch that has the value does not fit, another way to the same launch may: one that came before, or one that comes later."""
+    wrong = []
+    for several, wanted in (([1, 2, 2, 3], 2), ([1, 2, 3, 2], 3), ([2, 1, 3, 3], None)):
+        given = [Candidate(key, str(key), ((key, 1),), origin=place) for place, key in enumerate(several)]
+        heard: list[int] = []
+        _, looked = engine(hit=2, fits=lambda each, wanted=wanted: each.origin == wanted, heard=lambda tried: heard.extend(each.key for each in tried))
+        hit = looked.found("", given)
+        wrong += differs(f"{several}", (hit and hit.origin, sorted(heard)), (wanted, [1, 2, 3]))
     return wrong
 
 
@@ -485,13 +470,14 @@ def others(program: str) -> list[str]:
     return wrong
 
 
-def alike(program: str) -> list[str]:
+def alike(path: str) -> list[str]:
     """Launches that differ in a number whose hash in Python is that of the other are tried both; what is tried already is not."""
-    here, table = folder(), base_table("plain")
-    blobs = blobs_of(program, here, table)
-    launch, some = launch_in(table, "plain"), search.Search(None, blobs, None, 10)
-    tried_anew = [bool(some.new_table(replace(launch, rec=(Rec(0, (number,)),)))) for number in (0, (1 << 61) - 1, 0, 1)]
-    return differs("launches that are new", tried_anew, [True, True, False, True])
+    here = folder()
+    some = near(path, here)
+    runs, looked = engine()
+    launches = [replace(some.base, rec=(Rec(0, (number,)),)) for number in (0, (1 << 61) - 1, 0, 1)]
+    looked.found("", [some.runs.candidate(program.Change((), each)) for each in launches])
+    return differs("launches that are new", [each.origin.launch.rec[0].x for batch in runs.given for each in batch], [(0,), ((1 << 61) - 1,), (1,)])
 
 
 def stopped(program: str) -> list[str]:
@@ -542,7 +528,7 @@ def lines_said(_program: str) -> list[str]:
 def not_found(program: str) -> list[str]:
     here = folder()
     status, out, said = here.run("m.toml", "stub", NEVER, start=START, RIM=program)
-    rounds = r"\n  parts of other launches: [\d,]+; one change: [\d,]+; two likely changes: [\d,]+; what people change together: [\d,]+(, not all)?\n"
+    rounds = r"\n  parts of other launches: [\d,]+; one change: [\d,]+; two likely changes: [\d,]+(; what people change together: [\d,]+(, not all)?)?\n"
     wrong = differs("the likely ones", (status, without_progress(said), "\n  --far tries more: two and three changes of all kinds, for minutes\n" in out,
                                        re.search(rounds, out) is not None,
                                        out.endswith("--also for another manifest, --kept for a report\n")), (1, "", True, True, True))
@@ -780,8 +766,7 @@ def all_tries(program: str):
             yield f"lines of {axis.name} of {name}", lambda axis=axis, name=name: lines_of(program, axis, name)
     for name in ("plain", "stub", "old"):
         yield f"with what {name} begins", lambda name=name: begins(program, name)
-    yield from bases(program)
-    for look in (in_runs, many_steps, forms, others, alike, stopped, hidden, lines_said, not_found, words, refused, traces, terminal, installed, documents, example):
+    for look in (in_runs, many_steps, rounds, fitting, forms, others, alike, stopped, hidden, lines_said, not_found, words, refused, traces, terminal, installed, documents, example):
         yield look.__name__, lambda look=look: look(program)
 
 

@@ -1,7 +1,10 @@
 """Runs of `rim` over manifests that are written for it."""
+import functools
+import itertools
 import os
-from collections.abc import Callable, Sequence
+from collections.abc import Callable, Hashable, Sequence
 from dataclasses import dataclass
+from typing import Any
 
 from outside import files
 from outside.faults import Fault
@@ -18,15 +21,25 @@ FAULTS = ("no-memory", "file-unreadable", "file-too-large", "output-failed", "st
 
 @dataclass(frozen=True)
 class Candidate:
-    """A launch: what of it is measured, exactly; its table in a manifest, without its name; about how many steps are measured; what its first
-    steps depend on, which `rim measure` does once for all launches of a run that begin alike; and the names of its files, where a manifest has
-    those of its launches alone."""
+    """A launch: by what it is told apart from others; its table in a manifest, without its name; what is measured of it, part by part in their
+    order, each with about how many steps it has; the names of its files, where a manifest has those of its launches alone; and what its owner
+    knows of it."""
 
-    key: object
+    key: Hashable
     table: str
-    steps: int
-    group: tuple = ()
+    parts: tuple[tuple[Hashable, int], ...]
     files: frozenset[str] = frozenset()
+    origin: Any = None
+
+    @functools.cached_property
+    def steps(self) -> int:
+        """About how many steps are measured."""
+        return sum(count for _, count in self.parts)
+
+    def steps_after(self, other: "Candidate") -> int:
+        """About how many of its steps come after those with which another launch begins too."""
+        shared = sum(1 for _ in itertools.takewhile(lambda pair: pair[0] == pair[1], zip(self.parts, other.parts)))
+        return sum(count for _, count in self.parts[shared:])
 
 
 @dataclass(frozen=True)

@@ -1,169 +1,192 @@
-"""The launches that are tried: combinations of axes, the likeliest first, each launch once, and as many in a run of `rim` as a manifest has."""
+"""The launches that are tried: each once, in the order in which they are given, and as many in a run of `rim` as a manifest has."""
 import math
 import time
-from collections.abc import Iterator, Sequence
+from collections.abc import Callable, Iterable, Iterator, Sequence
 from concurrent.futures import Future, ThreadPoolExecutor
 from dataclasses import dataclass, field
-from typing import Protocol
 
 from outside.measurement import Value
 
-from .axes import At, Axis, best_first
 from .progress import Progress
 from .runs import MOST_FILES, MOST_LAUNCHES, Candidate, Outcome, Runs
 
-# About how many steps the launches of a run have. The first runs are small: what is likely is found at once.
-MOST_STEPS, FIRST = 1 << 22, 64
-# A launch of more steps than this, and than twice those of the first one, is put aside until there are some such, so that those which begin
-# alike are in one run: RAM in pages of 4 KiB takes as long as hundreds of other launches. First there are FIRST, and later more.
+# About how many steps the launches of a run have, where those that they share count once. The first runs are small: what is likely is found at
+# once. Which launches share their first steps is looked for among those of WINDOW runs.
+MOST_STEPS, FIRST, WINDOW = 1 << 23, 64, 4
+# A launch of more steps than this, and than twice those of the first one, is put aside until there are FIRST such, and later more, so that those
+# which begin alike are in one run: RAM in pages of 4 KiB takes as long as hundreds of other launches.
 COSTLY = 1 << 12
-# How many combinations are looked at for each launch that may be tried: many are of a launch that was tried.
+# How many launches are looked at for each one that may be tried: many were tried, or can't be.
 LOOKED_AT = 20
 
 
-class Subject(Protocol):
-    """What has a value: it makes launches of combinations."""
-
-    runs: Runs
-    value: Value
-
-    def candidate(self, at: At) -> Candidate | None:
-        """The launch of a combination; None where there is none such."""
-
-
 @dataclass
-class Tried:
-    """What of a subject was tried: by what of a launch is measured, and the one that has the value, once it is found. What is measured is told
-    apart exactly: the key itself is kept."""
+class Round:
+    """Launches that were tried one after another: what is said of them, how many were tried and refused, and whether these are all of them."""
 
-    keys: set[object] = field(default_factory=set)
-    found: object = None
-    doubles: dict[object, list[At]] = field(default_factory=dict)   # other combinations of a launch, where more subjects part them
+    about: str
+    tried: int = 0
+    refused: int = 0
+    seconds: float = 0.0
+    is_whole: bool = False
 
 
-def in_groups(late: list[tuple[At, Candidate]]) -> Iterator[list[tuple[At, Candidate]]]:
-    """Launches of many steps for a run each: those that begin alike side by side, whose first steps are counted once."""
-    batch: list[tuple[At, Candidate]] = []
-    files: set[str] = set()
-    steps = 0
-    for at, candidate in sorted(late, key=lambda each: each[1].group):
-        is_new = not batch or candidate.group != batch[-1][1].group
-        if batch and (is_new and steps > MOST_STEPS or len(files | candidate.files) > MOST_FILES):
-            yield batch
-            batch, files, steps, is_new = [], set(), 0, True
-        steps += candidate.steps if is_new else 0
-        files |= candidate.files
-        batch.append((at, candidate))
-    if batch:
-        yield batch
+def in_runs(some: Sequence[Candidate], most: int) -> Iterator[list[Candidate]]:
+    """Launches for a run each, at most so many. `rim measure` takes the steps once with which launches of a run begin, and each run reads and
+    hashes the files anew: so a run has those whose tables begin alike. It has them in their order, the likeliest first."""
+    found, names, steps = list[list[int]](), set[str](), 0
+    for place in sorted(range(len(some)), key=lambda place: some[place].table):
+        each = some[place]
+        if not found or len(found[-1]) == most or steps > MOST_STEPS or len(names | each.files) > MOST_FILES:
+            names, steps = set(), each.steps
+            found.append([])
+        else:
+            steps += each.steps_after(some[found[-1][-1]])
+        names |= each.files
+        found[-1].append(place)
+    yield from ([some[place] for place in places] for places in sorted(map(sorted, found)))
 
 
 @dataclass
 class Search:
-    """The search for the combination by which each of some subjects has its value."""
+    """The search for a launch that has a value. `fits` says of a launch that has it whether it is the one that is looked for: where more than
+    one value is given, other ways to the same launch may be. `heard` is told of launches that were tried."""
 
-    axes: Sequence[Axis]
-    subjects: Sequence[Subject]
+    runs: Runs
+    value: Value
     limit: int
     progress: Progress
-    until: float = math.inf                                 # when it ends, by the clock of time.monotonic
-    tried: int = 0
-    refused: int = 0
-    looked_at: int = 0
-    reached: list[set[int]] = field(default_factory=list)   # of each axis the ways that were tried
-    is_whole: bool = False                                  # whether all there are were tried
-    known: list[Tried] = field(default_factory=list)
+    until: float = math.inf                                     # when it ends, by the clock of time.monotonic
+    fits: Callable[[Candidate], bool] | None = None
+    heard: Callable[[Sequence[Candidate]], None] | None = None
+    rounds: list[Round] = field(default_factory=list)
+    made: int = 0
+    costly: int = 0
+    keys: set[object] = field(default_factory=set)              # of all launches that were tried: what they are told apart by, whole
+    doubles: dict[object, list[Candidate]] = field(default_factory=dict)
+    had: object = None                                          # the key of a launch that has the value, and did not fit
+    fitting: Candidate | None = None
+    left: list[Candidate] = field(default_factory=list)
 
-    def found(self) -> At | None:
-        """The first combination by which each subject has its value."""
-        self.reached = [set() for _ in self.axes]
-        self.known = [Tried() for _ in self.subjects]
-        pool = ThreadPoolExecutor(1)
+    @property
+    def tried(self) -> int:
+        return sum(each.tried for each in self.rounds)
+
+    @property
+    def refused(self) -> int:
+        return sum(each.refused for each in self.rounds)
+
+    @property
+    def is_over(self) -> bool:
+        """Whether its time is."""
+        return time.monotonic() >= self.until
+
+    @property
+    def is_ended(self) -> bool:
+        """Whether no more launches are tried."""
+        return self.is_over or self.made >= self.limit
+
+    def found(self, about: str, candidates: Iterable[Candidate | None], most: int | None = None, until: float = math.inf,
+              vast: float = math.inf) -> Candidate | None:
+        """A round: the first of some launches that has the value and fits. It tries so many at most, and ends at a time, where that is said. What
+        has more steps than `vast` is left for a last round. While launches are measured, the next ones are made."""
+        here = Round(about)
+        self.rounds.append(here)
+        started, pool = time.monotonic(), ThreadPoolExecutor(1)
+        waiting: tuple[list[Candidate], Future[Outcome]] | None = None
         try:
-            waiting: tuple[list[tuple[At, Candidate]], Future[Outcome]] | None = None
-            for batch in self.batches():
-                if waiting and (hit := self.taken(waiting)):
+            for batch in self.batches(self.new(candidates, here, most, min(until, self.until), vast)):
+                if waiting and (hit := self.taken(*waiting)):
                     return hit
-                if isinstance(batch, tuple):
-                    return batch
-                waiting = batch, pool.submit(self.subjects[0].runs.outcome, [each for _, each in batch], self.subjects[0].value)
-            return self.taken(waiting) if waiting else None
+                if min(until, self.until) <= time.monotonic():
+                    here.is_whole = False
+                    return None
+                waiting = batch, pool.submit(self.runs.outcome, batch, self.value)
+            return self.fitting or (self.taken(*waiting) if waiting else None)
         finally:
             pool.shutdown(cancel_futures=True)
+            here.seconds = time.monotonic() - started
             self.progress.end()
 
-    def batches(self) -> Iterator[list[tuple[At, Candidate]] | At]:
-        """Launches for a run each; or a combination by which each subject has its value, where that of the first is known."""
-        batch: list[tuple[At, Candidate]] = []
-        late: list[tuple[At, Candidate]] = []
-        steps, most, most_late, made, costly = 0, FIRST, FIRST, 0, 0
-        files: set[str] = set()
-        first = self.known[0]
-        for at in best_first(self.axes):
-            self.looked_at += 1
-            if made >= self.limit or self.looked_at > self.limit * LOOKED_AT or time.monotonic() >= self.until:
-                break
-            candidate = self.subjects[0].candidate(at)
-            if candidate is None:
+    def last(self, about: str) -> Candidate | None:
+        """The last round: of what was left."""
+        left, self.left = self.left, []
+        return self.found(about, self.again(left))
+
+    def again(self, left: list[Candidate]) -> Iterator[Candidate]:
+        for each in left:
+            self.keys.discard(each.key)
+            yield each
+
+    def new(self, candidates: Iterable[Candidate | None], here: Round, most: int | None, until: float, vast: float) -> Iterator[Candidate]:
+        """The launches of a round that were not tried, as long as there is time."""
+        end, left = self.limit if most is None else min(self.limit, self.made + most), len(self.left)
+        most_looks = (end - self.made) * LOOKED_AT
+        for looks, each in enumerate(candidates):
+            if self.made >= end or looks > most_looks or time.monotonic() >= until:
+                return
+            if each is None:
                 continue
-            if first.found is not None and candidate.key == first.found:
-                if self.fits_others(at):
-                    yield at
+            if each.key == self.had and self.had is not None:
+                if self.fits is None or self.fits(each):
+                    self.fitting = each
                     return
-                continue
-            if candidate.key in first.keys:
-                if len(self.subjects) > 1:
-                    first.doubles.setdefault(candidate.key, []).append(at)
-                continue
-            first.keys.add(candidate.key)
-            made, costly = made + 1, costly or max(COSTLY, 2 * candidate.steps)
-            if candidate.steps > costly:
-                late.append((at, candidate))
+            elif each.key in self.keys:
+                if self.fits is not None:
+                    self.doubles.setdefault(each.key, []).append(each)
+            else:
+                self.keys.add(each.key)
+                if each.steps > vast:
+                    self.left.append(each)
+                    continue
+                self.made += 1
+                yield each
+        here.is_whole = len(self.left) == left
+
+    def batches(self, launches: Iterator[Candidate]) -> Iterator[list[Candidate]]:
+        """Launches for a run each."""
+        some: list[Candidate] = []
+        late: list[Candidate] = []
+        most_late = FIRST
+        for each in launches:
+            self.costly = self.costly or max(COSTLY, 2 * each.steps)
+            if each.steps > self.costly:
+                late.append(each)
                 if len(late) == most_late:
-                    yield from in_groups(late)
+                    yield from in_runs(late, MOST_LAUNCHES)
                     late, most_late = [], min(4 * most_late, MOST_LAUNCHES)
                 continue
-            if len(files | candidate.files) > MOST_FILES:
-                yield batch
-                batch, steps, files = [], 0, set()
-            batch.append((at, candidate))
-            files |= candidate.files
-            steps += candidate.steps
-            if len(batch) == most or steps > MOST_STEPS:
-                yield batch
-                batch, steps, files, most = [], 0, set(), MOST_LAUNCHES
-        else:
-            self.is_whole = True
-        if batch:
-            yield batch
-        yield from in_groups(late)
+            some.append(each)
+            if len(some) == self.window:
+                yield from in_runs(some, self.most)
+                some = []
+        if self.fitting is None:
+            yield from in_runs(some, self.most)
+            yield from in_runs(late, MOST_LAUNCHES)
 
-    def taken(self, waiting: tuple[list[tuple[At, Candidate]], Future[Outcome]]) -> At | None:
-        """What came of a run: the combination that was looked for, where it is among these."""
-        batch, future = waiting
+    @property
+    def most(self) -> int:
+        """How many launches a run has: few at first."""
+        return min(MOST_LAUNCHES, max(FIRST, self.tried))
+
+    @property
+    def window(self) -> int:
+        """Among how many launches those that begin alike are looked for: the first ones are tried in their order."""
+        return self.most if self.tried < MOST_LAUNCHES else WINDOW * self.most
+
+    def taken(self, batch: list[Candidate], future: Future[Outcome]) -> Candidate | None:
+        """What came of a run: the launch that was looked for, where it is among these."""
         came = future.result()
-        self.tried += len(batch)
-        self.refused += came.refused
-        for at, _ in batch:
-            for reached, place in zip(self.reached, at):
-                reached.add(place)
-        self.progress.show(f"{self.tried:,} launches tried")
+        here = self.rounds[-1]
+        here.tried += len(batch) if came.hit is None else came.hit + 1
+        here.refused += came.refused
+        if self.heard is not None:
+            self.heard(batch)
+        self.progress.show(f"{self.tried:,} launches tried" + f", {here.about}" * bool(here.about))
         if came.hit is None:
             return None
-        at, candidate = batch[came.hit]
-        self.known[0].found = candidate.key
-        return next((each for each in (at, *self.known[0].doubles.get(candidate.key, ())) if self.fits_others(each)), None)
-
-    def fits_others(self, at: At) -> bool:
-        """Whether each of the other subjects has its value by a combination."""
-        return all(self.fits(subject, tried, at) for subject, tried in list(zip(self.subjects, self.known))[1:])
-
-    def fits(self, subject: Subject, tried: Tried, at: At) -> bool:
-        candidate = subject.candidate(at)
-        if candidate is None:
-            return False
-        if candidate.key not in tried.keys:
-            tried.keys.add(candidate.key)
-            if subject.runs.outcome([candidate], subject.value).hit is not None:
-                tried.found = candidate.key
-        return candidate.key == tried.found
+        hit = batch[came.hit]
+        if self.fits is None:
+            return hit
+        self.had = hit.key
+        return next((each for each in (hit, *self.doubles.get(hit.key, ())) if self.fits(each)), None)

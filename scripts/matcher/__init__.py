@@ -5,6 +5,7 @@ launch      a launch: its table, and the text of that
 manifests   the manifests that are given
 files       the files of launches: of manifests, named beside them, and made here
 trees       devicetrees for other launches, written anew
+begins      where a kernel and REC 0 begin, as `rim` says
 dumps       devicetrees that QEMU makes anew by changed words
 lines       the lines of a manifest by which two launches differ
 parts       the near things: parts of other launches, by the search of `finder`

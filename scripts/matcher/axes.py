@@ -12,8 +12,9 @@ from outside import parameters
 from outside.parameters import RMM_1_0, Parameter
 
 from . import people
+from .begins import entry_of, first_rec
 from .files import Files
-from .launch import KINDS, MIB, PAGE, Item, Launch, Rec, entry_of, first_rec, value_text, with_item, with_ram, with_recs, without_item
+from .launch import KINDS, MIB, PAGE, Item, Launch, Rec, value_text, with_item, with_ram, with_recs, without_item
 from .people import USUAL_SIZES, Changes, more_recs
 
 
@@ -41,9 +42,9 @@ def recs(launch: Launch, _files: Files) -> Changes:
 
 def entries(launch: Launch, files: Files) -> Changes:
     """With which values REC 0 begins, and with which the others do."""
-    if not launch.rec:
+    kernel, dtb, first = launch.of_kind("kernel"), launch.of_kind("dtb"), first_rec(launch, files) if launch.rec else None
+    if first is None:
         return
-    kernel, dtb, first = launch.of_kind("kernel"), launch.of_kind("dtb"), first_rec(launch, files)
     counters = [("", first.pc)] + ([("the kernel's address", entry_of(launch, files)), ("the kernel's base", kernel.at)] if kernel else [])
     counters += [("0", 0)] + [(f'the address of "{each.name}"', each.at) for each in launch.item if each.kind == "raw"]
     registers = [("", first.x)] + ([("the devicetree's address", (dtb.at,))] if dtb else []) + [("0", ())]
@@ -75,7 +76,9 @@ def item_orders(launch: Launch) -> list[tuple[str, list[Item]]]:
 
 def starts_of(launch: Launch, files: Files) -> dict[str, int]:
     """The address of each item's first byte."""
-    return {each.name: entry_of(launch, files) if each.kind == "kernel" else each.at for each in launch.item}
+    starts = {each.name: each.at for each in launch.item}
+    kernel, entry = launch.of_kind("kernel"), entry_of(launch, files)
+    return starts | {kernel.name: entry} if kernel and entry is not None else starts
 
 
 def regions_before(launch: Launch, files: Files, items: list[Item]) -> list[str]:
@@ -122,8 +125,9 @@ def left_out(launch: Launch, files: Files) -> Changes:
     for item in launch.item:
         rest = without_item(launch, item)
         yield f'"{item.name}" left out', rest
-        if launch.rec and item.kind in ("kernel", "dtb"):
-            yield f'"{item.name}" left out, and not its address', with_recs(rest, (first_rec(launch, files), *launch.rec[1:]))
+        first = first_rec(launch, files) if launch.rec and item.kind in ("kernel", "dtb") else None
+        if first is not None:
+            yield f'"{item.name}" left out, and not its address', with_recs(rest, (first, *launch.rec[1:]))
 
 
 def sizes(launch: Launch, files: Files) -> Changes:
@@ -153,7 +157,7 @@ def devicetrees(launch: Launch, _files: Files) -> Changes:
 def kernel_bases(launch: Launch, files: Files) -> Changes:
     """The kernel moved; a REC whose pc is at it begins there still, or at the address where it was."""
     kernel, entry = launch.of_kind("kernel"), entry_of(launch, files)
-    if kernel is None:
+    if kernel is None or entry is None:
         return
     for count in (1, -1, 2, -2, 3, -3, 4, -4):
         by = count * 2 * MIB

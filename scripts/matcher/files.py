@@ -3,7 +3,7 @@ some are made here: a devicetree for another launch, a file that is cut short.""
 import hashlib
 import os
 from dataclasses import dataclass, field
-from typing import Protocol
+from typing import Any, Protocol
 
 from outside import files
 from outside.faults import Fault
@@ -52,6 +52,7 @@ class Files(dict[str, Blob]):
         self.rim, self.folder, self.hints = rim, folder, hints or Hints()
         self.of_bytes: dict[bytes, str] = {}
         self.of_changes: dict[object, str | None] = {}
+        self.of_begins: dict[object, Any] = {}     # with what REC 0 begins: see begins
         self.flats: dict[str, Flat | None] = {}
         self.made_bytes, self.is_full = 0, False
         self.dumper: Maker | None = None

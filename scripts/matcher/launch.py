@@ -1,8 +1,7 @@
 """A launch: what its table in the manifest says, and the text of its table. What of it is measured, `rim` says."""
 import functools
-import itertools
 import json
-from collections.abc import Iterable, Mapping
+from collections.abc import Hashable, Iterable, Mapping
 from dataclasses import dataclass, fields, replace
 
 from outside import parameters
@@ -143,23 +142,7 @@ def with_ram(launch: Launch, groups: list[list[Region]]) -> Launch:
     return replace(launch, ram=tuple(region for group in groups for region in group), steps=steps)
 
 
-# ---- where it begins, and how much it is
-
-
-def entry_of(launch: Launch, files: Mapping[str, Blob]) -> int:
-    """The address of the kernel's first byte, with which REC 0 begins by default; zero without a kernel."""
-    kernel = launch.of_kind("kernel")
-    if kernel is None:
-        return 0
-    image = files[kernel.file].image
-    return kernel.at + (image.load_offset if image else 0)
-
-
-def first_rec(launch: Launch, files: Mapping[str, Blob]) -> Rec:
-    """REC 0 with its values, also where they are the default ones."""
-    first, dtb = launch.rec[0], launch.of_kind("dtb")
-    default = (dtb.at,) if dtb else ()
-    return replace(first, pc=entry_of(launch, files) if first.pc is None else first.pc, x=default if first.x is None else first.x)
+# ---- how much it is
 
 
 def blocks_of(launch: Launch) -> int:
@@ -179,12 +162,9 @@ def steps_of(launch: Launch, files: Mapping[str, Blob]) -> int:
     return blocks_of(launch) + pages_of(launch.item, files)
 
 
-def steps_after(launch: Launch, other: Launch, files: Mapping[str, Blob]) -> int:
-    """About how many steps of it come after those with which another launch begins too: all, where not the items alone are others."""
-    if replace(other, item=launch.item, rec=launch.rec) != launch:
-        return steps_of(launch, files)
-    shared = sum(1 for _ in itertools.takewhile(lambda pair: pair[0] == pair[1], zip(launch.item, other.item)))
-    return pages_of(launch.item[shared:], files)
+def parts_of(launch: Launch, files: Mapping[str, Blob]) -> tuple[tuple[Hashable, int], ...]:
+    """What is measured of it, part by part, each with about how many steps it has: the realm with its RAM, and item by item."""
+    return ((replace(launch, name="", item=(), rec=()), blocks_of(launch)), *((each, pages_of([each], files)) for each in launch.item))
 
 
 def is_whole(launch: Launch) -> bool:

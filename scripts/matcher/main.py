@@ -8,6 +8,8 @@ from dataclasses import replace
 
 from comparer import report as kept_report
 from finder.progress import Progress
+from finder.runs import Candidate
+from finder.search import Search
 from outside import ending, measurement, programs
 from outside import files as outside_files
 from outside.faults import Fault, WrongWords
@@ -22,8 +24,8 @@ from .axes import AXES
 from .files import Files, Hints
 from .launch import Launch
 from .manifests import MOST, Manifest, held, hold, list_of, manifest, names_of, no_such_launch, table_of
-from .program import Runs
-from .search import Candidate, Search
+from .program import Change, Runs
+from .search import Near
 from .words import ABOUT, SECONDS, Words, check_operands, parse
 
 # The longest file of command lines.
@@ -40,18 +42,18 @@ def axes_text() -> str:
 def about_axes(search: Search) -> list[str]:
     """What was tried, round by round, and which axes."""
     said = [f"{each.about}: {each.tried:,}{'' if each.is_whole else ', not all'}" for each in search.rounds if each.tried and each.about]
-    names = ", ".join(axis.name for axis in search.axes)
-    return [f"  {'; '.join(said)}"] * bool(said) + [f"  {sum(each.refused for each in search.rounds):,} of them are refused",
+    names = ", ".join(axis.name for axis in AXES)
+    return [f"  {'; '.join(said)}"] * bool(said) + [f"  {search.refused:,} of them are refused",
                                                     f"  axes: {names}; `rim-match --axes` explains them"]
 
 
-def hit_lines(found: Candidate, launch: Launch, version: int, search: Search) -> list[str]:
-    changes = lines.between(launch, found.launch, version, search.files)
+def hit_lines(found: Change, launch: Launch, version: int, files: Files, tried: int) -> list[str]:
+    changes = lines.between(launch, found.launch, version, files)
     texts = list(found.texts)
     if found.launch.algo != launch.algo:
         texts.insert(0, f"algo {found.launch.algo}, by the value's length")
     first = f'launch "{launch.name}" has the value by {len(texts)} change{"s" * (len(texts) > 1)}: {"; ".join(texts)}'
-    return [first, *(f"  {line}" for line in changes), f"  {search.tried:,} launches were tried"]
+    return [first, *(f"  {line}" for line in changes), f"  {tried:,} launches were tried"]
 
 
 def measure_again(runs: Runs, found: Launch, wanted: Value):
@@ -66,7 +68,7 @@ def as_they_are(runs: Runs, of: Manifest, launches: list[Launch], wanted: Value)
     if of.values or not of.launches:
         return of.with_value(f"{wanted.algo} {wanted.digits}")
     some = [launch for launch in launches if launch.algo == wanted.algo]
-    hit = runs.outcome([runs.candidate(each) for each in some], wanted).hit if some else None
+    hit = runs.hit(some, wanted)
     return [] if hit is None else [some[hit].name]
 
 
@@ -125,12 +127,12 @@ def dumper_of(qemu: str, folder: str, path: str, launch: Launch, held_files: Fil
     return dumps.begun(shutil.which(qemu) or qemu, folder, path, launch.name, dtb.file, held_files)
 
 
-def not_found_lines(launch: Launch, search: Search, said: Words, end: str) -> list[str]:
+def not_found_lines(launch: Launch, search: Search, files: Files, said: Words, end: str) -> list[str]:
     """What is said where no launch that was tried has the value; `end` is how it ended, or nothing."""
     also = f", nor with algo {search.value.algo}, which the value's length is of" if launch.algo != search.value.algo else ""
     first = f'launch "{launch.name}" does not have the value{also}, and none of {search.tried:,} launches near it has'
     of_also = " or of those of --also" * bool(said.also)
-    return [first, f"  no launch of the manifest{of_also} has it as it is", *about_axes(search), *FULL * search.files.is_full, *[f"  {end}"] * bool(end)]
+    return [first, f"  no launch of the manifest{of_also} has it as it is", *about_axes(search), *FULL * files.is_full, *[f"  {end}"] * bool(end)]
 
 
 # What is said where not all files were made that would have been tried.
@@ -149,29 +151,27 @@ def ends(said: Words, search: Search) -> str:
 
 
 def look(runs: Runs, search: Search, launch: Launch, others: list[parts.Other], said: Words,
-         kept: dict[str, kept_report.Report]) -> Candidate | list[str] | None:
+         kept: dict[str, kept_report.Report]) -> Change | list[str] | None:
     """The launch that has the value: of the parts of others, and else by changes. Between the two come the kept reports: what they say."""
     base = replace(launch, algo=search.value.algo)
     if others:
         # what hosts get wrong has its time too
-        until = min(search.until, time.monotonic() + max(1, (said.seconds or SECONDS) / 3))
-        near = parts.search(parts.parts_of(runs, search.value, base, others), min(search.limit, parts.MOST_TRIED), until,
-                            search.begun("parts of other launches"))
+        until = time.monotonic() + max(1, (said.seconds or SECONDS) / 3)
+        near = search.found("parts of other launches", parts.parts_of(runs, base, others).launches(), parts.MOST_TRIED, until)
         if near is not None:
-            return near
-    if said := said_of_kept(kept, search.value):
-        return said
-    if search.is_far:
-        return together(runs, search, base) or search.found(base)
-    return search.found(base) or together(runs, search, base)
+            return near.origin
+    if said_kept := said_of_kept(kept, search.value):
+        return said_kept
+    hit = together(runs, search, base) if said.is_far else None
+    hit = hit or Near(runs, base).found(search, said.is_far)
+    if hit is None and not said.is_far:
+        hit = together(runs, search, base)
+    return None if hit is None else hit.origin
 
 
 def together(runs: Runs, search: Search, base: Launch) -> Candidate | None:
     """The launch of which more of what people change is another one at once."""
-    left = min(search.limit - search.tried, parts.MOST_TOGETHER)
-    if left <= 0 or search.is_over:
-        return None
-    return parts.search(parts.together(runs, search.value, base), left, search.until, search.begun("what people change together"))
+    return None if search.is_ended else search.found("what people change together", parts.together(runs, base).launches(), parts.MOST_TOGETHER)
 
 
 def match(rim: Rim, folder: str, said: Words) -> int:
@@ -205,25 +205,25 @@ def match(rim: Rim, folder: str, said: Words) -> int:
     for each, launches in zip(also, launches_also):
         others += parts.others_of(launches, launch, visible(each.path))
     seconds = math.inf if said.is_far and said.seconds is None else said.seconds or SECONDS
-    search = Search(runs, held_files, wanted, said.limit, said.is_far, until=time.monotonic() + seconds)
-    return answered(said, given, launch, search, lambda: look(runs, search, launch, others, said, kept))
+    search = Search(runs, wanted, said.limit, Progress("rim-match"), time.monotonic() + seconds)
+    return answered(said, given, launch, search, runs, lambda: look(runs, search, launch, others, said, kept))
 
 
-def answered(said: Words, given: Manifest, launch: Launch, search: Search, looked: Callable[[], Candidate | list[str] | None]) -> int:
+def answered(said: Words, given: Manifest, launch: Launch, search: Search, runs: Runs, looked: Callable[[], Change | list[str] | None]) -> int:
     """What the search has found, or what was tried."""
     try:
         found = looked()
     except Stopped:
-        print("\n".join(not_found_lines(launch, search, said, "the search was stopped")), flush=True)
+        print("\n".join(not_found_lines(launch, search, runs.files, said, "the search was stopped")), flush=True)
         raise
     if isinstance(found, list):
         print("\n".join(found))
         return 0
     if found is None:
-        print("\n".join([*not_found_lines(launch, search, said, ends(said, search)), f"  {NOT_NAMED}"]))
+        print("\n".join([*not_found_lines(launch, search, runs.files, said, ends(said, search)), f"  {NOT_NAMED}"]))
         return 1
-    measure_again(search.runs, found.launch, search.value)
-    print("\n".join(hit_lines(found, launch, given.version, search)))
+    measure_again(runs, found.launch, search.value)
+    print("\n".join(hit_lines(found, launch, given.version, runs.files, search.tried)))
     return 0
 
 

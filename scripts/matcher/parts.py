@@ -3,27 +3,23 @@
 A machine that is between two launches is likelier than one that is wrong in a number: it has the kernel of one release and the initrd of
 another, or the devicetree of another size of RAM. Each part is an axis of the finder's search; its own is the likeliest.
 """
-from collections.abc import Callable, Iterable, Sequence
+from collections.abc import Callable, Iterable, Iterator, Sequence
 from dataclasses import dataclass, field, replace
 
-from finder import runs as finder_runs
-from finder import search as finder
-from finder.axes import At, Axis
-from finder.progress import Progress
-from outside.measurement import Value
+from finder.axes import At, Axis, best_first
+from finder.runs import Candidate
 from outside.texts import quoted
 
 from . import people, trees
 from .files import Files
-from .launch import MIB, Item, Launch, Rec, Region, is_whole, with_item, with_ram, with_recs, without_item
-from .program import Runs
-from .search import Candidate, Round
+from .launch import MIB, Item, Launch, Rec, Region, with_item, with_ram, with_recs, without_item
+from .program import Change, Runs
 
 # How many other ways a part has at most, and how many launches are tried.
 MOST_WAYS, MOST_TRIED = 64, 8192
 # How likely a part is that of this launch, and how likely a devicetree is where and as it was.
 OWN, AS_IT_IS = 0.8, 0.3
-Change = Callable[[Launch], Launch | None]
+Way = Callable[[Launch], Launch | None]
 
 
 @dataclass(frozen=True)
@@ -39,9 +35,9 @@ class Part:
     """What one part may be: how a text calls each way, and the change; the first is none."""
 
     name: str
-    ways: list[tuple[str, Change]] = field(default_factory=lambda: [("", lambda launch: launch)])
+    ways: list[tuple[str, Way]] = field(default_factory=lambda: [("", lambda launch: launch)])
 
-    def add(self, text: str, change: Change):
+    def add(self, text: str, change: Way):
         if len(self.ways) <= MOST_WAYS:
             self.ways.append((text, change))
 
@@ -65,7 +61,7 @@ def item_like(launch: Launch, kind: str, other: Item | None) -> Launch | None:
 
 def of_kind(name: str, kind: str, base: Launch, others: Sequence[Other], files: Files) -> Part:
     """The items of one kind that launches have."""
-    def change(item: Item | None) -> Change:
+    def change(item: Item | None) -> Way:
         def changed(launch: Launch) -> Launch | None:
             new = item_like(launch, kind, item)
             return people.with_entry(launch, new, files) if new is not None and kind == "kernel" else new
@@ -85,7 +81,7 @@ def of_kind(name: str, kind: str, base: Launch, others: Sequence[Other], files: 
 
 
 def of_ram(base: Launch, others: Sequence[Other]) -> Part:
-    def change(ram: tuple[Region, ...]) -> Change:
+    def change(ram: tuple[Region, ...]) -> Way:
         def changed(launch: Launch) -> Launch | None:
             return with_ram(launch, [[each] for each in ram]) if len(ram) == len(launch.ram) else None
         return changed
@@ -99,7 +95,7 @@ def of_ram(base: Launch, others: Sequence[Other]) -> Part:
 
 
 def of_recs(base: Launch, others: Sequence[Other]) -> Part:
-    def change(rec: tuple[Rec, ...], rule: str | None) -> Change:
+    def change(rec: tuple[Rec, ...], rule: str | None) -> Way:
         return lambda launch: replace(with_recs(launch, rec), rec_rule=rule)
 
     part, seen = Part("RECs"), {(base.rec, base.rec_rule)}
@@ -133,7 +129,7 @@ def of_sizes(base: Launch) -> Part:
 
 
 def of_processors(base: Launch, files: Files) -> Part:
-    def change(count: int) -> Change:
+    def change(count: int) -> Way:
         def changed(launch: Launch) -> Launch | None:
             new = trees.with_processors(launch, files, count)
             return new and replace(with_recs(new, people.more_recs(new, count, True)), rec_rule=new.rec_rule or "runnable")
@@ -148,7 +144,7 @@ def of_processors(base: Launch, files: Files) -> Part:
 
 def of_named(base: Launch, files: Files) -> Part:
     """The contents of files that are named: of the kernel and the initrd, since the devicetree is another one for all the rest."""
-    def change(kind: str, name: str) -> Change:
+    def change(kind: str, name: str) -> Way:
         def changed(launch: Launch) -> Launch | None:
             item = launch.of_kind(kind)
             return people.with_file(launch, item, name, files) if item else None
@@ -167,7 +163,6 @@ class Parts:
     """What is tried: the parts of a launch, each its own or another's, with a devicetree that says so or as it is."""
 
     runs: Runs
-    value: Value
     base: Launch
     parts: list[Part]
 
@@ -184,34 +179,27 @@ class Parts:
         several = list(people.settled(self.base, new, self.runs.files))
         return several[at[-1]] if at[-1] < len(several) else None
 
-    def candidate(self, at: At) -> finder_runs.Candidate | None:
+    def candidate(self, at: At) -> Candidate | None:
         new = self.launch(at)
-        return self.runs.candidate(new) if new is not None and is_whole(new) else None
+        return None if new is None else self.runs.candidate(Change(self.texts(at), new))
 
     def texts(self, at: At) -> tuple[str, ...]:
         return tuple(part.ways[place][0] for part, place in zip(self.parts, at) if place)
 
+    def launches(self) -> Iterator[Candidate | None]:
+        """The launches of such parts, the likeliest first."""
+        return map(self.candidate, best_first(self.axes))
 
-def parts_of(runs: Runs, value: Value, base: Launch, others: Sequence[Other]) -> Parts:
+
+def parts_of(runs: Runs, base: Launch, others: Sequence[Other]) -> Parts:
     kinds = (("kernel", "kernel"), ("initrd", "initrd"), ("devicetree", "dtb"))
     of_items = [of_kind(name, kind, base, others, runs.files) for name, kind in kinds]
-    return Parts(runs, value, base, [*of_items, of_ram(base, others), of_recs(base, others)])
+    return Parts(runs, base, [*of_items, of_ram(base, others), of_recs(base, others)])
 
 
-def together(runs: Runs, value: Value, base: Launch) -> Parts:
+def together(runs: Runs, base: Launch) -> Parts:
     """What people change at once: another machine has another command line, another size and other processors."""
-    return Parts(runs, value, base, [of_lines(base, runs.files), of_sizes(base), of_processors(base, runs.files), of_named(base, runs.files)])
-
-
-def search(subject: Parts, limit: int, until: float, round_: Round) -> Candidate | None:
-    """The launch of such parts that has the value; what was tried is said of the round, also where a signal stops it."""
-    looked = finder.Search(subject.axes, [subject], limit, Progress("rim-match"), until)
-    try:
-        at = looked.found()
-    finally:
-        round_.tried, round_.refused, round_.is_whole = looked.tried, looked.refused, looked.is_whole
-    new = None if at is None else subject.launch(at)
-    return None if new is None or at is None else Candidate(subject.texts(at), new)
+    return Parts(runs, base, [of_lines(base, runs.files), of_sizes(base), of_processors(base, runs.files), of_named(base, runs.files)])
 
 
 def others_of(launches: Iterable[Launch], base: Launch, path: str) -> list[Other]:

@@ -9,9 +9,9 @@ from dataclasses import replace
 
 from outside.texts import quoted
 
-from . import trees
+from . import begins, trees
 from .files import MOST, Files
-from .launch import GIB, MIB, PAGE, Item, Launch, Rec, entry_of, with_item, with_ram, with_recs
+from .launch import GIB, MIB, PAGE, Item, Launch, Rec, with_item, with_ram, with_recs
 
 Changes = Iterator[tuple[str, Launch]]
 KIB = 1 << 10
@@ -44,8 +44,10 @@ def settled(old: Launch, new: Launch, files: Files) -> Iterator[Launch]:
 
 def with_entry(old: Launch, new: Launch, files: Files) -> Launch:
     """A REC that began at the kernel begins there still."""
-    before, after = entry_of(old, files), entry_of(new, files)
-    return replace(new, rec=tuple(replace(each, pc=after) if each.pc == before else each for each in new.rec))
+    if all(each.pc is None for each in new.rec):
+        return new
+    before, after = begins.entry_of(old, files), begins.entry_of(new, files)
+    return replace(new, rec=tuple(replace(each, pc=after) if each.pc is not None and each.pc == before else each for each in new.rec))
 
 
 def with_file(launch: Launch, item: Item, file: str, files: Files) -> Launch:

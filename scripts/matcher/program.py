@@ -1,4 +1,5 @@
 """Runs of `rim` over launches: a manifest has the files that its launches name, and paths are as from where the user is."""
+import hashlib
 from collections.abc import Sequence
 from dataclasses import dataclass, field
 
@@ -8,7 +9,15 @@ from outside.measurement import Value
 from outside.rim import Rim
 
 from .files import Files
-from .launch import Launch, manifest_head, steps_of, table_text
+from .launch import Launch, is_whole, manifest_head, parts_of, table_text
+
+
+@dataclass(frozen=True)
+class Change:
+    """A launch, and the changes that lead to it."""
+
+    texts: tuple[str, ...]
+    launch: Launch
 
 
 @dataclass
@@ -18,17 +27,28 @@ class Runs(runs.Runs):
     def head_of(self, launches: Sequence[Candidate]) -> str:
         return manifest_head({name for each in launches for name in each.files}, self.files)
 
-    def candidate(self, launch: Launch, table: str = "") -> Candidate:
-        """A launch for a run. Its table, which is made here where it is not given, tells it apart from others: what is measured of a launch,
-        `rim` alone says."""
-        table = table or table_text(launch)
+    def candidate(self, change: Change) -> Candidate | None:
+        """A launch for a run; None where no manifest may have it. Its table tells it apart from others: what is measured of a launch, `rim` alone
+        says."""
+        launch = change.launch
+        if not is_whole(launch):
+            return None
+        table = table_text(launch)
+        # a digest takes less room than what it is of, and no two of them are alike; Python's hash of 0 is that of 2 ** 61 - 1
+        key = hashlib.blake2b(table.encode(errors="surrogateescape"), digest_size=16).digest()
         named = frozenset(each.file for each in launch.item if each.file is not None)
-        begins = repr((launch.algo, launch.s2sz, launch.numbers, launch.block_level, launch.ram))
-        return Candidate(table, table, steps_of(launch, self.files), (begins,), named)
+        return Candidate(key, table, parts_of(launch, self.files), named, change)
 
     def has(self, launch: Launch, value: Value) -> bool:
         """Whether a launch has the value, measured by itself."""
-        return self.outcome([self.candidate(launch)], value).hit is not None
+        return self.hit([launch], value) is not None
+
+    def hit(self, launches: Sequence[Launch], value: Value) -> int | None:
+        """Which of some launches of a manifest has the value."""
+        some = [(place, self.candidate(Change((), each))) for place, each in enumerate(launches)]
+        given = [(place, each) for place, each in some if each is not None]
+        hit = self.outcome([each for _, each in given], value).hit if given else None
+        return None if hit is None else given[hit][0]
 
 
 def begun(rim: Rim, folder: str, files: Files) -> Runs:

@@ -80,6 +80,6 @@ def body_of(realm: Realm, contents: Mapping[str, Content], level: int) -> tuple:
     return tuple(runs)
 
 
-def steps_of(body: tuple) -> int:
-    """How many steps of it are measured."""
-    return sum(run[-1] if run[0] in ("ram", "zeros", "data") else 1 for run in body)
+def parts_of(body: tuple) -> tuple[tuple[tuple, int], ...]:
+    """Its runs, each with how many steps of it are measured."""
+    return tuple((run, run[-1] if run[0] in ("ram", "zeros", "data") else 1) for run in body)

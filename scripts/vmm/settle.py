@@ -11,7 +11,7 @@ import math
 from collections.abc import Mapping, Sequence
 from dataclasses import dataclass, field, replace
 
-from finder.axes import At, Axis, count_of
+from finder.axes import At, Axis, best_first, count_of
 from finder.progress import Progress
 from finder.runs import Candidate, Runs
 from finder.search import COSTLY, Search
@@ -27,7 +27,7 @@ from .hypervisor import Hypervisor
 from .launches import Launch
 from .layout import Row
 from .manifest import item_text, ram_text, recs_text, text, value_text
-from .measured import WIDTHS, Content, body_of, level_at, steps_of
+from .measured import WIDTHS, Content, body_of, level_at, parts_of
 from .numbers import Number
 from .realm import Parts, Realm, of_parts
 from .rows import NUMBERS
@@ -103,6 +103,19 @@ class Choices:
 # ---- a guest with its value
 
 
+@dataclass(frozen=True)
+class Body:
+    """What is measured of a combination of rows after the parameters: its number, its lines in a manifest, and its parts with their steps."""
+
+    number: int
+    lines: str
+    parts: tuple[tuple[tuple, int], ...]
+
+    @property
+    def steps(self) -> int:
+        return sum(count for _, count in self.parts)
+
+
 @dataclass
 class Case:
     """A guest, and the measurement that a machine gave for it."""
@@ -118,7 +131,7 @@ class Case:
     contents: dict[str, Content]
     choices: Choices | None = None
     widths: dict[str, int] = field(default_factory=dict)
-    bodies: dict[tuple[Structure, int], tuple[int, str, int]] = field(default_factory=dict)
+    bodies: dict[tuple[Structure, int], Body] = field(default_factory=dict)
     numbers_of_bodies: dict[tuple, int] = field(default_factory=dict)
 
     def places(self, taken: Mapping[str, str]) -> layout.Places:
@@ -142,8 +155,8 @@ class Case:
         counted: dict[str, int | bool | str] = {"block_level": int(taken["block_level"]), "rec_rule": taken["rec_rule"]}
         return of_parts(self.vmm, Parts(self.launch.guest, places, tree, stub), counted, taken)
 
-    def body(self, taken: dict[str, str], structure: Structure, level: int) -> tuple[int, str, int]:
-        """What is measured of a combination of rows after the parameters, by its number; its lines in a manifest; and how many steps."""
+    def body(self, taken: dict[str, str], structure: Structure, level: int) -> Body:
+        """What is measured of a combination of rows after the parameters."""
         key = structure, level
         if key not in self.bodies:
             realm = self.realm(taken)
@@ -151,13 +164,13 @@ class Case:
             items = ", ".join(map(item_text, realm.items))
             lines = (f"block_level = {level}\nrec_rule = {text(str(realm.numbers['rec_rule']))}\nram = {ram_text(realm.regions)}\n"
                      f"item = [{items}]\nrec = {recs_text(realm.recs, realm.pc, realm.x)}\nsteps = [{', '.join(map(text, realm.steps))}]\n")
-            self.bodies[key] = self.numbers_of_bodies.setdefault(body, len(self.numbers_of_bodies)), lines, steps_of(body)
+            self.bodies[key] = Body(self.numbers_of_bodies.setdefault(body, len(self.numbers_of_bodies)), lines, parts_of(body))
         return self.bodies[key]
 
     def whole_key(self, taken: dict[str, str], structure: Structure) -> tuple[int, ...]:
         """What is measured of a combination of rows, at each width."""
         level = int(taken["block_level"])
-        return tuple(self.body(taken, structure, each)[0] for each in sorted({level_at(level, width) for width in (*WIDTHS[:2], 32)}))
+        return tuple(self.body(taken, structure, each).number for each in sorted({level_at(level, width) for width in (*WIDTHS[:2], 32)}))
 
     def parameters(self, at: At) -> tuple[tuple, str]:
         """The parameters of the realm, and their lines in a manifest."""
@@ -180,8 +193,8 @@ class Case:
         structure = self.chosen.structures[at[0]][0]
         values, lines = self.parameters(at)
         level = level_at(int(structure[self.chosen.level_at]), int(values[0]))
-        number, more, steps = self.bodies.get((structure, level)) or self.body(self.chosen.taken(structure), structure, level)
-        return Candidate((number, *values), lines + more, steps, (values, level))
+        body = self.bodies.get((structure, level)) or self.body(self.chosen.taken(structure), structure, level)
+        return Candidate((body.number, *values), lines + body.lines, (((values, level), 1), *body.parts), origin=at)
 
 
 @dataclass
@@ -200,7 +213,7 @@ class Beginning:
 
     def candidate(self, at: At) -> Candidate | None:
         values, lines = self.case.parameters(at)
-        return Candidate(values, lines, 1)
+        return Candidate(values, lines, ((values, 1),), origin=at)
 
 
 # ---- what is tried
@@ -232,7 +245,7 @@ def structures_of(cases: Sequence[Case], rows: list[Row], ways: list[dict[str, f
         best = (names, likely) if likely > had[1] else had[:2]
         found[key] = (*best, had[2] + likely)
         level = level_at(int(taken.get("block_level", likeliest["block_level"])), 40)
-        steps.setdefault(key, sum(case.body(likeliest | taken, names, level)[2] for case in cases))
+        steps.setdefault(key, sum(case.body(likeliest | taken, names, level).steps for case in cases))
     usual = SHARED * max(COSTLY, 2 * next(iter(steps.values()), 1))
     weighed = [(names, total * min(1.0, usual / steps[key])) for key, (names, _, total) in found.items()]
     return sorted(weighed, key=lambda each: -each[1])
@@ -373,32 +386,73 @@ class Outcome:
     is_whole: bool
 
 
+@dataclass
+class Reached:
+    """Which ways of each axis were tried."""
+
+    ways: list[set[int]]
+
+    def hear(self, tried: Sequence[Candidate]):
+        for each in tried:
+            for ways, place in zip(self.ways, each.origin):
+                ways.add(place)
+
+
+@dataclass
+class Other:
+    """Another guest whose value is given: what was measured of it, and what has its value."""
+
+    case: Case
+    tried: set[object] = field(default_factory=set)
+    found: object = None
+
+    def fits(self, at: At) -> bool:
+        """Whether it has its value by a combination."""
+        candidate = self.case.candidate(at)
+        if candidate is None:
+            return False
+        if candidate.key not in self.tried:
+            self.tried.add(candidate.key)
+            if self.case.runs.outcome([candidate], self.case.value).hit is not None:
+                self.found = candidate.key
+        return candidate.key == self.found
+
+
+def search_of(case: Case | Beginning, axes: Sequence[Axis], others: Sequence[Case], limit: int) -> tuple[Search, Reached]:
+    """The search for the combination by which a guest, and others, have their values; and what it tries."""
+    reached, several = Reached([set() for _ in axes]), [Other(each) for each in others]
+    fits = (lambda hit: all(each.fits(hit.origin) for each in several)) if several else None
+    return Search(case.runs, case.value, limit, Progress("rim-manifest"), fits=fits, heard=reached.hear), reached
+
+
 def search(cases: list[Case], choices: Choices, limit: int, algo: str | None) -> Outcome:
     """Looks for what gives the value of each guest. A trace says the parameters first."""
     before = 0
     traced = next((case for case in cases if case.trace), None)
     if traced:
-        first = Search([Axis("rows", (1.0,)), *choices.axes()[1:]], [Beginning(traced)], limit, Progress("rim-manifest"))
-        at = first.found()
+        beginning, axes = Beginning(traced), [Axis("rows", (1.0,)), *choices.axes()[1:]]
+        first, reached = search_of(beginning, axes, (), limit)
+        hit = first.found("", map(beginning.candidate, best_first(axes)))
         before = first.tried
-        if at is None:
+        if hit is None:
             lines = ["the first step, realm_create, has another measurement by each of these",
-                     *tried_lines(choices, [set(), *first.reached[1:]])[-5:]]
-            return Outcome(None, first.tried, first.refused, choices.count, lines, first.is_whole)
-        choices = choices.at_numbers(at)
+                     *tried_lines(choices, [set(), *reached.ways[1:]])[-5:]]
+            return Outcome(None, first.tried, first.refused, choices.count, lines, first.rounds[-1].is_whole)
+        choices = choices.at_numbers(hit.origin)
         for case in cases:
             case.choices = choices
-    main = Search(choices.axes(), cases, max(limit - before, 1), Progress("rim-manifest"))
+    axes = choices.axes()
+    main, reached = search_of(cases[0], axes, cases[1:], max(limit - before, 1))
     try:
-        found = main.found()
+        hit = main.found("", map(cases[0].candidate, best_first(axes)))
     except Stopped:
         print("\n".join([f"the search was stopped; none of {before + main.tried:,} launches has the value. Tried were",
-                         *(f"  {line}" for line in tried_lines(choices, main.reached))]), flush=True)
+                         *(f"  {line}" for line in tried_lines(choices, reached.ways))]), flush=True)
         raise
-    settled = settled_of(cases, choices, found, algo) if found else None
+    settled = settled_of(cases, choices, hit.origin, algo) if hit else None
     lines = nearest_lines(traced, choices) if traced and not settled else []
-    lines += [] if settled else tried_lines(choices, main.reached)
-    return Outcome(settled, before + main.tried, main.refused, choices.count, lines, main.is_whole)
+    lines += [] if settled else tried_lines(choices, reached.ways)
+    return Outcome(settled, before + main.tried, main.refused, choices.count, lines, main.rounds[-1].is_whole)
 
 
 def nearest_lines(case: Case, choices: Choices) -> list[str]:

@@ -265,7 +265,7 @@ def open_lines(rows: Mapping[str, layout.Row], settled: Settled) -> list[str]:
 def found_lines(outcome: Outcome, settled: Settled, rows: Mapping[str, layout.Row], cases: Sequence[Case]) -> list[str]:
     """What is said of what was found."""
     guests = ", ".join(case.launch.name for case in cases)
-    lines = [f"{guests}: {'the value is' if len(cases) == 1 else 'the values are'} given by these, after {outcome.tried:,} launches:"]
+    lines = [f"{guests}: {'the value is' if len(cases) == 1 else 'the values are'} given by these, after {outcome.tried:,} launch{'es' * (outcome.tried != 1)}:"]
     for name, way in settled.ways.items():
         rest = "not settled" if name in settled.open_rows else "settled"
         if name == "s2sz" and "host" in rows[name].names and way.isdigit():
