@@ -366,7 +366,7 @@ class NeverRuns:
 
 def engine(limit: int = 10_000, hit: object = None, **others) -> tuple[NeverRuns, search.Search]:
     runs = NeverRuns(hit)
-    return runs, search.Search(runs, Value("sha256", NEVER), limit, Progress("rim-match"), **others)
+    return runs, search.Search(runs, Value("sha256", NEVER), limit, Progress("rim-match"), waits=True, **others)
 
 
 def launches_of(counts) -> list[Candidate]:

@@ -13,8 +13,8 @@ from .runs import MOST_FILES, MOST_LAUNCHES, Candidate, Outcome, Runs
 # About how many steps the launches of a run have, where those that they share count once. The first runs are small: what is likely is found at
 # once. Which launches share their first steps is looked for among those of WINDOW runs.
 MOST_STEPS, FIRST, WINDOW = 1 << 23, 64, 4
-# A launch of more steps than this, and than twice those of the first one, is put aside until there are FIRST such, and later more, so that those
-# which begin alike are in one run: RAM in pages of 4 KiB takes as long as hundreds of other launches.
+# A launch of more steps than this, and than twice those of the first one, is put aside until the end of its round, or until there are FIRST such,
+# and later more, so that those which begin alike are in one run: RAM in pages of 4 KiB takes as long as hundreds of other launches.
 COSTLY = 1 << 12
 # How many launches are looked at for each one that may be tried: many were tried, or can't be.
 LOOKED_AT = 20
@@ -50,13 +50,14 @@ def in_runs(some: Sequence[Candidate], most: int) -> Iterator[list[Candidate]]:
 @dataclass
 class Search:
     """The search for a launch that has a value. `fits` says of a launch that has it whether it is the one that is looked for: where more than
-    one value is given, other ways to the same launch may be. `heard` is told of launches that were tried."""
+    one value is given, other ways to the same launch may be. `heard` gets the launches that were tried."""
 
     runs: Runs
     value: Value
     limit: int
     progress: Progress
     until: float = math.inf                                     # when it ends, by the clock of time.monotonic
+    waits: bool = False                                         # whether what is costly waits for the end of its round
     fits: Callable[[Candidate], bool] | None = None
     heard: Callable[[Sequence[Candidate]], None] | None = None
     rounds: list[Round] = field(default_factory=list)
@@ -152,7 +153,7 @@ class Search:
             self.costly = self.costly or max(COSTLY, 2 * each.steps)
             if each.steps > self.costly:
                 late.append(each)
-                if len(late) == most_late:
+                if len(late) == most_late and not self.waits:
                     yield from in_runs(late, MOST_LAUNCHES)
                     late, most_late = [], min(4 * most_late, MOST_LAUNCHES)
                 continue

@@ -18,12 +18,23 @@ def bare(item: Item) -> Item:
 
 
 def default_rec(launch: Launch, files: Files) -> Rec | None:
-    """With what REC 0 begins by default; None where `rim` takes the launch's kernel or its devicetree at no place."""
-    some = [each for each in (launch.of_kind("kernel"), launch.of_kind("dtb")) if each is not None]
-    key = ("begins", *((each.at, each.file) for each in some))
+    """With what REC 0 begins by default; None where `rim` takes the launch's kernel or its devicetree at no place. Each is asked of by itself, and
+    once: the first is where the REC begins, and the second what it is given, whatever else there is."""
+    first = Rec(0, ())
+    for item in (launch.of_kind("kernel"), launch.of_kind("dtb")):
+        if item is not None:
+            alone = alone_with(item, files)
+            if alone is None:
+                return None
+            first = Rec(alone.pc or first.pc, alone.x or first.x)
+    return first
+
+
+def alone_with(item: Item, files: Files) -> Rec | None:
+    """With what the REC of a launch begins that has an item alone."""
+    key = item.kind, item.at, item.file if item.kind == "kernel" else ""
     if key not in files.of_begins:
-        alone = Launch("0", "sha256", WIDTH, block_level=LEVEL, ram=EVERYWHERE, item=tuple(map(bare, some)), rec=(Rec(),))
-        files.of_begins[key] = traced(alone, files)
+        files.of_begins[key] = traced(Launch("0", "sha256", WIDTH, block_level=LEVEL, ram=EVERYWHERE, item=(bare(item),), rec=(Rec(),)), files)
     return files.of_begins[key]
 
 

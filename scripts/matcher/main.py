@@ -205,7 +205,7 @@ def match(rim: Rim, folder: str, said: Words) -> int:
     for each, launches in zip(also, launches_also):
         others += parts.others_of(launches, launch, visible(each.path))
     seconds = math.inf if said.is_far and said.seconds is None else said.seconds or SECONDS
-    search = Search(runs, wanted, said.limit, Progress("rim-match"), time.monotonic() + seconds)
+    search = Search(runs, wanted, said.limit, Progress("rim-match"), time.monotonic() + seconds, waits=True)
     return answered(said, given, launch, search, runs, lambda: look(runs, search, launch, others, said, kept))
 
 

@@ -25,8 +25,11 @@ AXES = tuple(dataclasses.replace(axis, changes=lambda _launch, _files: iter(()))
 """
 # Runs the tries until one is wrong, and says which.
 DRIVER = """
-import itertools, sys
+import itertools, signal, sys
 sys.path[:0] = ["tests", "scripts"]
+# a shell's background ignores INT, and nohup HUP: what is started from here would too
+signal.signal(signal.SIGINT, signal.default_int_handler)
+signal.signal(signal.SIGHUP, signal.SIG_DFL)
 import bases, causes, matching
 from helpers.tries import tried
 for name, look in itertools.chain(*(each.all_tries(sys.argv[1]) for each in (matching, causes, bases))):
