@@ -15,7 +15,7 @@ use rim_launch::{Launch, Role};
 use std::alloc::Global;
 
 /// The devicetree of a launch, as it is placed: the bytes of its file, or the edited ones. `None` where the launch has no devicetree.
-/// A launch that is refused has none to give: its first refusal is the answer, and `reasons` is told why.
+/// A launch that is refused has none to give: its first refusal is the answer, and `reasons` is given why.
 #[tactic(auto, unfolding(crate::specs::Devicetree::devicetree_of))]
 pub fn placed_devicetree<W: Reasons>(
     alloc: Global,

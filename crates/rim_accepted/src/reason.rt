@@ -33,7 +33,7 @@ impl LaunchReason {
     }
 }
 
-/// What is told why launches are refused. No clause speaks of it, so what a call answers does not depend on it.
+/// What is given why launches are refused. No clause speaks of it, so what a call answers does not depend on it.
 pub trait Reasons {
     /// A launch, over these files, is refused for this reason.
     fn refused(&mut self, launch: &NamedLaunch, files: &[Vec<u8>], reason: &LaunchReason);

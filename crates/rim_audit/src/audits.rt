@@ -64,7 +64,7 @@ pub fn audit_launches(alloc: Global, loaded: LoadedRelease<'_>) -> Result<Report
     audit_with_gate(alloc, &FreeGate, loaded, &mut Unasked)
 }
 
-/// The same, where a gate is called around the audit of each launch, as by worker 0, and no page is counted; and `reasons` is told why
+/// The same, where a gate is called around the audit of each launch, as by worker 0, and no page is counted; and `reasons` is given why
 /// launches are refused. No clause speaks of the two, so what the audit says does not depend on them.
 pub fn audit_with_gate<G: Gate, W: Reasons>(
     alloc: Global,

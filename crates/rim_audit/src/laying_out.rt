@@ -10,7 +10,7 @@ use rim_accepted::{AuditFault, LoadedLaunch, Reasons, accept_with_list};
 use rim_desc::Lanes;
 use std::alloc::Global;
 
-/// The commands of a launch, which is placed and listed here; or why it is refused, which `reasons` is told. Their pages are
+/// The commands of a launch, which is placed and listed here; or why it is refused, which `reasons` is given. Their pages are
 /// hashed in as many lanes.
 pub fn lay_out<'a, W: Reasons>(
     alloc: Global,

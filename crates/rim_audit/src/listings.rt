@@ -50,7 +50,7 @@ pub fn listing(
     )
 }
 
-/// The listing of a launch; or, where it is refused, its line of a report: `NAME refused KIND`, and `reasons` is told why. Pages are hashed
+/// The listing of a launch; or, where it is refused, its line of a report: `NAME refused KIND`, and `reasons` is given why. Pages are hashed
 /// in as many lanes.
 pub fn listing_or_refusal<W: Reasons>(
     alloc: Global,

@@ -19,7 +19,7 @@ use std::alloc::Global;
 /// The trace of a launch: a line for each command that creates or extends the Realm Initial Measurement, with
 /// the measurement that a monitor holds after it (64 or 128 hexadecimal digits), a space, and the command's words but for the
 /// granules that the host chooses. Or, where the launch is refused, its line of a report: `NAME refused KIND`, and
-/// `reasons` is told why. Pages are hashed in as many lanes.
+/// `reasons` is given why. Pages are hashed in as many lanes.
 pub fn trace_or_refusal<W: Reasons>(
     alloc: Global,
     lanes: Lanes,

@@ -1,6 +1,6 @@
 //! Lanes of vectors, for digests of messages that go side by side: each message has a lane. Here is what SHA-256 and SHA-512 have in
 //! common (FIPS 180-4): what lane by lane means, its laws, and what messages side by side take of arrays. The kit proves an array's
-//! literal where its elements are of a type parameter, and not where they are vectors of `N` words: `eight` and `repeated` stand for it.
+//! literal where its elements are of a type parameter, and not where they are vectors of `N` words: `eight` and `repeated` take its place.
 #![tactic(auto)]
 
 ghost use Rattle.std.specs.Prelude.{◌≡◌, ◌<◌, [], ◌∷◌, length, replicate};
