@@ -23,6 +23,7 @@ import shutil
 import signal
 import subprocess
 import sys
+import threading
 import time
 import tomllib
 from dataclasses import replace
@@ -36,7 +37,7 @@ from helpers.tries import at_a_time, differs, program_of, told
 
 from finder import search
 from finder.progress import Progress
-from finder.runs import Candidate, Outcome
+from finder.runs import Candidate, NamedFile, Outcome
 from matcher import files, lines, manifests, program
 from matcher.axes import AXES
 from matcher.begins import first_rec
@@ -343,13 +344,25 @@ def in_runs(path: str) -> list[str]:
     every = itertools.chain.from_iterable(some.launches(count, others) for count, others, _ in ROUNDS)
     given = list({each.key: each for each in itertools.islice(every, 4000) if each}.values())
     place = {each.key: number for number, each in enumerate(given)}
-    several = list(search.in_runs(given, 256))
+    several = list(search.in_runs(given))
     wrong = differs("all, once", sorted(place[each.key] for run in several for each in run), list(range(len(given))))
     for run in several:
         names = {item.file for each in run for item in each.origin.launch.item}
-        wrong += differs("a run", (len(run) <= 256, len(names) <= 64, sorted(run, key=lambda each: place[each.key]) == run), (True, True, True))
+        wrong += differs("a run", (len(run) <= 1024, len(names) <= 64, sorted(run, key=lambda each: place[each.key]) == run), (True, True, True))
     alike = [sum(each.origin.launch.s2sz == 48 for each in run) for run in several]
     return wrong + differs(f"those of one width are together: {alike}", sum(count > 0 for count in alike) <= 3, True)
+
+
+def large_files(_path: str) -> list[str]:
+    """A run reads at most 256 MiB of large files, or those of one launch; launches with the same large files are in one run, whatever their tables are."""
+    small = [NamedFile(f"small-{number}", 1 << 20) for number in range(4)]
+    large = [NamedFile(f"large-{number}", (30 << 20) * (1 + 9 * (number == 3))) for number in range(4)]
+    given = [Candidate(number, f"{number:06}", ((number, 1),), frozenset((small[number % 3], large[number % 4]))) for number in range(400)]
+    several = list(search.in_runs(given))
+    files = [sorted({file.name for each in run for file in each.files}) for run in several]
+    return differs("runs", [(len(run), names) for run, names in zip(several, files)],
+                   [(300, ["large-0", "large-1", "large-2", *(f"small-{number}" for number in range(3))]),
+                    (100, ["large-3", *(f"small-{number}" for number in range(3))])])
 
 
 class NeverRuns:
@@ -366,7 +379,7 @@ class NeverRuns:
 
 def engine(limit: int = 10_000, hit: object = None, **others) -> tuple[NeverRuns, search.Search]:
     runs = NeverRuns(hit)
-    return runs, search.Search(runs, Value("sha256", NEVER), limit, Progress("rim-match"), waits=True, **others)
+    return runs, search.Search(runs, Value("sha256", NEVER), limit, Progress("rim-match"), waits=True, **{"at_once": 1} | others)
 
 
 def launches_of(counts) -> list[Candidate]:
@@ -378,7 +391,7 @@ def many_steps(path: str) -> list[str]:
     here = folder()
     some = near(path, here, axes=tuple(axis for axis in AXES if axis.name in ("block_level", "num_bps", "num_wps")))
     wrong = []
-    for count, others, is_left in ((1, 1, False), (2, 2, False), (3, 3, True)):
+    for count, others, is_left in ((1, 1, False), (2, 0, False), (2, 2, True), (3, 3, True)):
         runs, looked = engine()
         looked.found("the launch itself", [some.runs.candidate(program.Change((), some.base))])
         looked.found("a round", some.launches(count, others), vast=some.vast(count, others))
@@ -414,7 +427,35 @@ def rounds(_path: str) -> list[str]:
     wrong += differs("nothing but what can't be", (looked.tried, looked.rounds[0].is_whole), (0, False))
     runs, looked = engine(hit=150)
     hit = looked.found("many", launches_of([1] * 3000))
-    return wrong + differs("the first that has it", (hit and hit.key, looked.tried, [len(each) for each in runs.given[:3]]), (150, 151, [64, 64, 64]))
+    return wrong + differs("the first that has it", (hit and hit.key, looked.tried, [len(each) for each in runs.given]), (150, 151, [64, 128]))
+
+
+class LateRuns(NeverRuns):
+    """The first run ends after the second one."""
+
+    def __init__(self, hit: object):
+        super().__init__(hit)
+        self.second = threading.Event()
+
+    def outcome(self, launches: list[Candidate], value: Value) -> Outcome:
+        is_first = launches[0].key == 0
+        if is_first and not self.second.wait(60):
+            return Outcome(None, len(launches))
+        found = super().outcome(launches, value)
+        if not is_first:
+            self.second.set()
+        return found
+
+
+def at_once(_path: str) -> list[str]:
+    """Of two runs at a time the first one's launches come first, whichever ends first."""
+    wrong = []
+    for hit, tried in ((10, 11), (70, 71), (5000, 3000)):
+        runs = LateRuns(hit)
+        looked = search.Search(runs, Value("sha256", NEVER), 10_000, Progress("rim-match"), waits=True)
+        found = looked.found("many", launches_of([1] * 3000))
+        wrong += differs(f"{hit}", (found and found.key, looked.tried, looked.refused), (hit if hit < 3000 else None, tried, 0))
+    return wrong
 
 
 def fitting(_path: str) -> list[str]:
@@ -766,7 +807,7 @@ def all_tries(program: str):
             yield f"lines of {axis.name} of {name}", lambda axis=axis, name=name: lines_of(program, axis, name)
     for name in ("plain", "stub", "old"):
         yield f"with what {name} begins", lambda name=name: begins(program, name)
-    for look in (in_runs, many_steps, rounds, fitting, forms, others, alike, stopped, hidden, lines_said, not_found, words, refused, traces, terminal, installed, documents, example):
+    for look in (in_runs, large_files, many_steps, rounds, at_once, fitting, forms, others, alike, stopped, hidden, lines_said, not_found, words, refused, traces, terminal, installed, documents, example):
         yield look.__name__, lambda look=look: look(program)
 
 

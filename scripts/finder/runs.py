@@ -2,9 +2,9 @@
 import functools
 import itertools
 import os
-from collections.abc import Callable, Hashable, Sequence
-from dataclasses import dataclass
-from typing import Any
+from collections.abc import Callable, Hashable, Iterable, Iterator, Sequence
+from dataclasses import dataclass, field
+from typing import Any, NamedTuple
 
 from outside import files
 from outside.faults import Fault
@@ -15,20 +15,32 @@ from outside.programs import Ran
 
 # The most launches and files of a manifest.
 MOST_LAUNCHES, MOST_FILES = 1024, 64
+# How many runs there are at a time: while the last launches of one leave workers idle, the other goes on.
+AT_ONCE = 2
 # What `rim` says where it could not do what a run is for: no launch is refused for these.
 FAULTS = ("no-memory", "file-unreadable", "file-too-large", "output-failed", "status ")
+
+
+class NamedFile(NamedTuple):
+    """A file of a launch: its name in a manifest, and how many bytes it has."""
+
+    name: str
+    length: int
+
+
+def bytes_of(some: Iterable[NamedFile]) -> int:
+    return sum(each.length for each in some)
 
 
 @dataclass(frozen=True)
 class Candidate:
     """A launch: by what it is told apart from others; its table in a manifest, without its name; what is measured of it, part by part in their
-    order, each with about how many steps it has; the names of its files, where a manifest has those of its launches alone; and what its owner
-    knows of it."""
+    order, each with about how many steps it has; its files, where a manifest has those of its launches alone; and what its owner knows of it."""
 
     key: Hashable
     table: str
     parts: tuple[tuple[Hashable, int], ...]
-    files: frozenset[str] = frozenset()
+    files: frozenset[NamedFile] = frozenset()
     origin: Any = None
 
     @functools.cached_property
@@ -53,14 +65,14 @@ class Outcome:
 @dataclass
 class Runs:
     """The program, the text of the files that launches name, and a folder for manifests. `rim` is started there, or in another one that is
-    named: paths of files are as from there."""
+    named: paths of files are as from there. Runs may be made by several threads."""
 
     rim: Rim
     head: str
     folder: str
-    workers: int = 2
     start: str = ""
-    count: int = 0
+    workers: int = field(default_factory=lambda: max(1, min(64, len(os.sched_getaffinity(0))) // AT_ONCE))
+    numbers: Iterator[int] = field(default_factory=lambda: itertools.count(1))
 
     def head_of(self, launches: Sequence[Candidate]) -> str:
         """What is before the launches in a manifest."""
@@ -68,8 +80,7 @@ class Runs:
 
     def run(self, launches: Sequence[Candidate], words: Callable[[str], list[str]]) -> Ran:
         """What `rim` says by some words of a manifest of launches, which are named by their places; `words` is given its path."""
-        self.count += 1
-        path = os.path.join(self.folder, f"search-{self.count}.toml")
+        path = os.path.join(self.folder, f"search-{next(self.numbers)}.toml")
         tables = (f'[[launch]]\nname = "{number}"\n{each.table}' for number, each in enumerate(launches))
         files.write(path, "".join([self.head_of(launches), *tables]).encode())
         try:

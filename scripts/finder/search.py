@@ -1,6 +1,7 @@
 """The launches that are tried: each once, in the order in which they are given, and as many in a run of `rim` as a manifest has."""
 import math
 import time
+from collections import deque
 from collections.abc import Callable, Iterable, Iterator, Sequence
 from concurrent.futures import Future, ThreadPoolExecutor
 from dataclasses import dataclass, field
@@ -8,11 +9,16 @@ from dataclasses import dataclass, field
 from outside.measurement import Value
 
 from .progress import Progress
-from .runs import MOST_FILES, MOST_LAUNCHES, Candidate, Outcome, Runs
+from .runs import AT_ONCE, MOST_FILES, MOST_LAUNCHES, Candidate, NamedFile, Outcome, Runs, bytes_of
 
-# About how many steps the launches of a run have, where those that they share count once. The first runs are small: what is likely is found at
-# once. Which launches share their first steps is looked for among those of WINDOW runs.
-MOST_STEPS, FIRST, WINDOW = 1 << 23, 64, 4
+# About how many steps the launches of a run have, where those that they share count once; and how many bytes of files, where these are not one
+# launch's own, or small.
+MOST_STEPS, MOST_BYTES = 1 << 23, 1 << 28
+# Among how many launches those that share their first steps are looked for: among few at first, since what is likely is found at once; later
+# few launches of a round are waited for, and then more and more.
+FIRST, LATER, MOST_AMONG = 64, 512, 4 * MOST_LAUNCHES
+# A file of as many bytes takes as long to be read as launches take that share nothing.
+LARGE = 1 << 22
 # A launch of more steps than this, and than twice those of the first one, is put aside until the end of its round, or until there are FIRST such,
 # and later more, so that those which begin alike are in one run: RAM in pages of 4 KiB takes as long as hundreds of other launches.
 COSTLY = 1 << 12
@@ -31,18 +37,26 @@ class Round:
     is_whole: bool = False
 
 
-def in_runs(some: Sequence[Candidate], most: int) -> Iterator[list[Candidate]]:
-    """Launches for a run each, at most so many. `rim measure` takes the steps once with which launches of a run begin, and each run reads and
-    hashes the files anew: so a run has those whose tables begin alike. It has them in their order, the likeliest first."""
-    found, names, steps = list[list[int]](), set[str](), 0
-    for place in sorted(range(len(some)), key=lambda place: some[place].table):
+def large_of(each: Candidate) -> list[str]:
+    """The names of a launch's large files."""
+    return sorted(file.name for file in each.files if file.length >= LARGE)
+
+
+def in_runs(some: Sequence[Candidate]) -> Iterator[list[Candidate]]:
+    """Launches for a run each. `rim measure` takes the steps once with which launches of a run begin, and each run reads and hashes the files
+    anew: so a run has those with the same large files, and of these those whose tables begin alike. It has them in their order, the likeliest
+    first."""
+    found, here, steps = list[list[int]](), set[NamedFile](), 0
+    for place in sorted(range(len(some)), key=lambda place: (large_of(some[place]), some[place].table)):
         each = some[place]
-        if not found or len(found[-1]) == most or steps > MOST_STEPS or len(names | each.files) > MOST_FILES:
-            names, steps = set(), each.steps
+        both = here | each.files
+        is_too_long = bytes_of(both) > MOST_BYTES and bytes_of(both - here) >= LARGE
+        if not found or len(found[-1]) == MOST_LAUNCHES or steps > MOST_STEPS or len(both) > MOST_FILES or is_too_long:
+            both, steps = set(each.files), each.steps
             found.append([])
         else:
             steps += each.steps_after(some[found[-1][-1]])
-        names |= each.files
+        here = both
         found[-1].append(place)
     yield from ([some[place] for place in places] for places in sorted(map(sorted, found)))
 
@@ -60,6 +74,7 @@ class Search:
     waits: bool = False                                         # whether what is costly waits for the end of its round
     fits: Callable[[Candidate], bool] | None = None
     heard: Callable[[Sequence[Candidate]], None] | None = None
+    at_once: int = AT_ONCE
     rounds: list[Round] = field(default_factory=list)
     made: int = 0
     costly: int = 0
@@ -93,17 +108,17 @@ class Search:
         has more steps than `vast` is left for a last round. While launches are measured, the next ones are made."""
         here = Round(about)
         self.rounds.append(here)
-        started, pool = time.monotonic(), ThreadPoolExecutor(1)
-        waiting: tuple[list[Candidate], Future[Outcome]] | None = None
+        started, pool = time.monotonic(), ThreadPoolExecutor(self.at_once)
+        waiting: deque[tuple[list[Candidate], Future[Outcome]]] = deque()
         try:
             for batch in self.batches(self.new(candidates, here, most, min(until, self.until), vast)):
-                if waiting and (hit := self.taken(*waiting)):
+                if len(waiting) == self.at_once and (hit := self.taken(*waiting.popleft())):
                     return hit
                 if min(until, self.until) <= time.monotonic():
                     here.is_whole = False
-                    return None
-                waiting = batch, pool.submit(self.runs.outcome, batch, self.value)
-            return self.fitting or (self.taken(*waiting) if waiting else None)
+                    break
+                waiting.append((batch, pool.submit(self.runs.outcome, batch, self.value)))
+            return self.fitting or next((hit for each in waiting if (hit := self.taken(*each))), None)
         finally:
             pool.shutdown(cancel_futures=True)
             here.seconds = time.monotonic() - started
@@ -148,32 +163,22 @@ class Search:
         """Launches for a run each."""
         some: list[Candidate] = []
         late: list[Candidate] = []
-        most_late = FIRST
+        among, most_late = min(max(FIRST, self.tried), LATER), FIRST
         for each in launches:
             self.costly = self.costly or max(COSTLY, 2 * each.steps)
             if each.steps > self.costly:
                 late.append(each)
                 if len(late) == most_late and not self.waits:
-                    yield from in_runs(late, MOST_LAUNCHES)
+                    yield from in_runs(late)
                     late, most_late = [], min(4 * most_late, MOST_LAUNCHES)
                 continue
             some.append(each)
-            if len(some) == self.window:
-                yield from in_runs(some, self.most)
-                some = []
+            if len(some) == among:
+                yield from in_runs(some)
+                some, among = [], min(2 * among, MOST_AMONG)
         if self.fitting is None:
-            yield from in_runs(some, self.most)
-            yield from in_runs(late, MOST_LAUNCHES)
-
-    @property
-    def most(self) -> int:
-        """How many launches a run has: few at first."""
-        return min(MOST_LAUNCHES, max(FIRST, self.tried))
-
-    @property
-    def window(self) -> int:
-        """Among how many launches those that begin alike are looked for: the first ones are tried in their order."""
-        return self.most if self.tried < MOST_LAUNCHES else WINDOW * self.most
+            yield from in_runs(some)
+            yield from in_runs(late)
 
     def taken(self, batch: list[Candidate], future: Future[Outcome]) -> Candidate | None:
         """What came of a run: the launch that was looked for, where it is among these."""

@@ -76,7 +76,7 @@ class Files(dict[str, Blob]):
 
     def made(self, about: str, data: bytes) -> str | None:
         """A file of some bytes that are made here, each once; None where too many were made."""
-        digest = hashlib.sha256(data).digest()
+        digest = hashlib.blake2b(data).digest()
         if digest not in self.of_bytes:
             if self.made_bytes + len(data) > MOST_MADE or not self.folder:
                 self.is_full = True

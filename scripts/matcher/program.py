@@ -4,7 +4,7 @@ from collections.abc import Sequence
 from dataclasses import dataclass, field
 
 from finder import runs
-from finder.runs import Candidate
+from finder.runs import Candidate, NamedFile
 from outside.measurement import Value
 from outside.rim import Rim
 
@@ -25,7 +25,7 @@ class Runs(runs.Runs):
     files: Files = field(default_factory=lambda: Files(Rim("")))
 
     def head_of(self, launches: Sequence[Candidate]) -> str:
-        return manifest_head({name for each in launches for name in each.files}, self.files)
+        return manifest_head({file.name for each in launches for file in each.files}, self.files)
 
     def candidate(self, change: Change) -> Candidate | None:
         """A launch for a run; None where no manifest may have it. Its table tells it apart from others: what is measured of a launch, `rim` alone
@@ -36,7 +36,7 @@ class Runs(runs.Runs):
         table = table_text(launch)
         # a digest takes less room than what it is of, and no two of them are alike; Python's hash of 0 is that of 2 ** 61 - 1
         key = hashlib.blake2b(table.encode(errors="surrogateescape"), digest_size=16).digest()
-        named = frozenset(each.file for each in launch.item if each.file is not None)
+        named = frozenset(NamedFile(each.file, self.files[each.file].length) for each in launch.item if each.file is not None)
         return Candidate(key, table, parts_of(launch, self.files), named, change)
 
     def has(self, launch: Launch, value: Value) -> bool:

@@ -1,5 +1,6 @@
 """What is tried near a launch, round by round: the launch as it is, and then what its axes change."""
 import itertools
+import math
 from collections.abc import Iterator
 from dataclasses import dataclass
 
@@ -11,8 +12,6 @@ from .files import Files
 from .launch import Launch, steps_of
 from .program import Change, Runs
 
-# A launch of more steps than this is left for the last round where more than one thing is changed: gigabytes of RAM in blocks of 4 KiB.
-VAST_STEPS = 1 << 20
 # How many axes are changed at once, and how many of the changes need not be likely ones; what is said of a round. The first NEAR rounds
 # are tried where nothing else is said: what is in the others is rare, and they take minutes.
 NEAR = 2
@@ -54,9 +53,9 @@ class Near:
         return map(self.runs.candidate, self.changed(count, others))
 
     def vast(self, count: int, others: int) -> float:
-        """How many steps are too many for a round: a few of its launches would take most of the time."""
-        costly = max(COSTLY, 2 * steps_of(self.base, self.runs.files))
-        return {2: max(costly, VAST_STEPS), 3: costly}.get(count if others else 1, float("inf"))
+        """How many steps are too many for a round where more than one thing is changed, not all of it likely: a few of its launches would take
+        most of the time."""
+        return max(COSTLY, 2 * steps_of(self.base, self.runs.files)) if count > 1 and others else math.inf
 
     def found(self, search: Search, is_far: bool) -> Candidate | None:
         """The first launch that has the value: the one as it is, and then round after round."""

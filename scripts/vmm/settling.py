@@ -193,7 +193,7 @@ class Maker:
             stubs[places.stub_bytes] = made.put("stub-1", places.stub_bytes, "", "rule stub_bytes")
         blobs = [launch.guest.loaded, *filter(None, [launch.initrd]), *known.values(), *stubs.values(), made.put(ZEROS, b"\0", "", "zeros")]
         contents = {blob.file: settle.content_of(files.read(os.path.join(made.path, blob.file), 1 << 30)) for blob in blobs}
-        runs = Runs(work.rim, settle.head_of(blobs), made.path, min(64, len(os.sched_getaffinity(0))))
+        runs = Runs(work.rim, settle.head_of(blobs), made.path)
         return Case(self.vmm, work.table, launch, runs, given.value, given.trace, trees, stubs, contents)
 
     def drop(self):
