@@ -54,8 +54,8 @@ def modules_of(here, name):
 
 def start():
     here, name = script_at(os.path.abspath(__file__))
-    if sys.version_info[:2] < (3, 11):
-        refuse(name, "Python %d.%d runs it (%s), expected Python 3.11 or later" % (sys.version_info[0], sys.version_info[1], sys.executable))
+    if sys.version_info[:2] < (3, 9):
+        refuse(name, "Python %d.%d runs it (%s), expected Python 3.9 or later" % (sys.version_info[0], sys.version_info[1], sys.executable))
     # Until the modules are there, Python's own way to be interrupted is a page of lines.
     if signal.getsignal(signal.SIGINT) is signal.default_int_handler:
         signal.signal(signal.SIGINT, signal.SIG_DFL)

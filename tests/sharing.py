@@ -6,13 +6,17 @@
 - Texts: what is shown of characters that nobody sees, of bytes that are no UTF-8, of long texts.
 - Files that are FIFOs, devices, folders, too long; TOML and JSON that have two meanings or are too deep.
 - Programs that never end, say too much, leave others that keep their output open; scripts that a signal stops while one runs.
-- How a script ends: full disks, closed outputs, faults. Older versions of Python, which read the files that are started.
+- How a script ends: full disks, closed outputs, faults. Older versions of Python, which read the files that are started; and the oldest one that
+  the scripts take, where it is here.
 - What PROGRAM says of Images and devicetrees, and of files that are none.
 
 The last line is 'N passed, M failed'.
 """
 import ast
+import glob
+import importlib.util
 import os
+import shutil
 import signal
 import struct
 import subprocess
@@ -25,6 +29,8 @@ from functools import partial
 
 from helpers import SCRIPTS, TOP
 from helpers.files import deep, image, tree
+from helpers.folders import Folder
+from helpers.guests import WITH_TREE
 from helpers.tries import program_of, told
 
 from outside import files, programs, texts
@@ -262,7 +268,7 @@ def ends() -> list[str]:
 # ---- older versions of Python
 
 STARTS = ("rim-manifest", "rim-match", "rim-compare", "rim-verify", "rim-endorse", "scripts/vmm/measure.py")
-OLD = "import runpy, sys; sys.version_info = (3, 9, 2, 'final', 0); sys.argv = sys.argv[1:]; runpy.run_path(sys.argv[0], run_name='__main__')"
+OLD = "import runpy, sys; sys.version_info = (3, 8, 2, 'final', 0); sys.argv = sys.argv[1:]; runpy.run_path(sys.argv[0], run_name='__main__')"
 
 
 def versions() -> list[str]:
@@ -273,9 +279,61 @@ def versions() -> list[str]:
         with open(path, encoding="utf-8") as file:
             ast.parse(file.read(), name, feature_version=(3, 6))
         ran = subprocess.run([sys.executable, "-c", OLD, path, "--help"], stdout=subprocess.PIPE, stderr=subprocess.PIPE, text=True, check=False)
-        said = f"{os.path.basename(name).removesuffix('.py')}: Python 3.9 runs it ({sys.executable}), expected Python 3.11 or later\n"
+        said = f"{os.path.basename(name).removesuffix('.py')}: Python 3.8 runs it ({sys.executable}), expected Python 3.9 or later\n"
         wrong += [f"{name}: {ran}"] * ((ran.returncode, ran.stdout, ran.stderr) != (3, "", said))
     return wrong
+
+
+def oldest_python() -> str | None:
+    """A Python 3.9 that starts, of the PATH or of pyenv's; None where there is none."""
+    root = os.environ.get("PYENV_ROOT") or os.path.expanduser("~/.pyenv")
+    some = [shutil.which("python3.9"), *sorted(glob.glob(os.path.join(root, "versions", "3.9.*", "bin", "python3.9")))]
+    return next((path for path in some if path and not subprocess.run([path, "-c", ""], stderr=subprocess.DEVNULL, check=False).returncode), None)
+
+
+def tomli() -> str | None:
+    """The folder of the module tomli: by itself, or the copy that pip has of it."""
+    for name in ("tomli", "pip._vendor.tomli"):
+        try:
+            found = importlib.util.find_spec(name)
+        except ModuleNotFoundError:
+            continue
+        if found and found.submodule_search_locations:
+            return found.submodule_search_locations[0]
+    return None
+
+
+def oldest(program: str) -> list[str]:
+    """The oldest Python that the scripts take reads each module. Where it is here it takes a guest's words, and measures, compares and looks for
+    what came of them; without tomli it says what is missing."""
+    for path in glob.glob(os.path.join(SCRIPTS, "*", "*.py")):
+        with open(path, encoding="utf-8") as file:
+            ast.parse(file.read(), path, feature_version=(3, 9))
+    python, reader = oldest_python(), tomli()
+    if python is None or reader is None:
+        print("sharing.py: there is no Python 3.9, or no tomli: the scripts are not started by it")
+        return []
+    with Folder() as here:
+        for path, leads in (("bin/python3", python), ("has/tomli", reader)):
+            os.makedirs(os.path.join(here.path, os.path.dirname(path)))
+            os.symlink(leads, os.path.join(here.path, path))
+        own = os.environ | {"PATH": f"{here.path}/bin:{os.environ['PATH']}", "RIM": program}
+
+        def said(name: str, *words: str, folder: str = "out", modules: str = "has") -> tuple[int, str]:
+            ran = subprocess.run([os.path.join(TOP, name), *words], cwd=os.path.join(here.path, folder), stdout=subprocess.PIPE, stderr=subprocess.STDOUT,
+                                 text=True, check=False, env=own | {"PYTHONPATH": os.path.join(here.path, modules)})
+            return ran.returncode, ran.stdout
+
+        bare = said("rim-manifest", *WITH_TREE, folder="", modules="none")
+        wrong = [f"without tomli: {bare}"] * ("Python 3.9 reads no TOML, expected the module tomli beside it" not in bare[1])
+        made = said("rim-manifest", *WITH_TREE, folder="")
+        measured = said(os.path.join(here.path, "out", "measure"))
+        here.put("out/kept", said(os.path.join(here.path, "out", "measure"), "--json")[1].encode())
+        name, _, value = measured[1].splitlines()[1].split(" ")
+        found = said("rim-match", "manifest.toml", name, value)
+        wrong += [f"rim-match: {found}"] * (found != (0, f'launch "{name}" has the value as it is\n'))
+        others = [said("rim-compare", "kept", "manifest.toml"), said("rim-verify", "--help"), said("rim-endorse", "--help")]
+        return wrong + [f"{came}" for came in (made, measured, *others) if came[0]]
 
 
 # ---- what rim says of files
@@ -343,7 +401,7 @@ def trees(program: str) -> list[str]:
 def run_all() -> int:
     program = program_of(sys.argv[1:])
     looks = {look.__name__: look for look in (shown_texts, read_files, read_data, run_programs, stopped, ends, versions)}
-    looks |= {look.__name__: partial(look, program) for look in (images, trees)}
+    looks |= {look.__name__: partial(look, program) for look in (images, trees, oldest)}
     return told([(name, look()) for name, look in looks.items()])
 
 

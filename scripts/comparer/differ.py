@@ -1,14 +1,17 @@
 """What differs between a kept report and another one, as values; a line and a member of JSON of each."""
+from __future__ import annotations
+
 import enum
 from collections import Counter
 from collections.abc import Callable, Iterator, Mapping
 from dataclasses import dataclass, replace
+from typing import Union
 
 from outside.texts import quoted
 
 from .report import STATED_SIZE, Content, Inputs, Report, Value
 
-Entry = Value | Content
+Entry = Union[Value, Content]
 
 
 class Kind(enum.Enum):
@@ -65,27 +68,19 @@ class Difference:
 
     @property
     def text(self) -> str:
-        match self.kind:
-            case Kind.GONE:
-                return f"is gone: it was {self.was}"
-            case Kind.NEW:
-                return f"is new: {self.now}"
-            case Kind.RENAMED:
-                return f"has {self.what} that {self.of} {quoted(self.had or '')} had, which is gone: {self.now}"
-            case Kind.VALUE | Kind.CONTENTS if self.had is not None:
-                return f"has {self.what} that {self.of} {quoted(self.had)} had: {self.now}, was {self.was}"
-            case Kind.VALUE:
-                return f"has another value: {self.now}, was {self.was}"
-            case Kind.CONTENTS:
-                return f"has other contents: {self.now}, was {self.was}"
-            case Kind.REFUSED:
-                return f"is refused now: {reason(self.now)}, was {self.was}"
-            case Kind.ACCEPTED:
-                return f"is accepted now: {self.now}, was {self.was}"
-            case Kind.RPV:
-                return f"has another personalization value: {rpv(self.now)}, was {rpv(self.was)}"
-            case Kind.REASON:
-                return f"is refused for another reason: {reason(self.now)}, was {reason(self.was)}"
+        if self.kind in (Kind.VALUE, Kind.CONTENTS) and self.had is not None:
+            return f"has {self.what} that {self.of} {quoted(self.had)} had: {self.now}, was {self.was}"
+        return {
+            Kind.GONE: lambda: f"is gone: it was {self.was}",
+            Kind.NEW: lambda: f"is new: {self.now}",
+            Kind.RENAMED: lambda: f"has {self.what} that {self.of} {quoted(self.had or '')} had, which is gone: {self.now}",
+            Kind.VALUE: lambda: f"has another value: {self.now}, was {self.was}",
+            Kind.CONTENTS: lambda: f"has other contents: {self.now}, was {self.was}",
+            Kind.REFUSED: lambda: f"is refused now: {reason(self.now)}, was {self.was}",
+            Kind.ACCEPTED: lambda: f"is accepted now: {self.now}, was {self.was}",
+            Kind.RPV: lambda: f"has another personalization value: {rpv(self.now)}, was {rpv(self.was)}",
+            Kind.REASON: lambda: f"is refused for another reason: {reason(self.now)}, was {reason(self.was)}",
+        }[self.kind]()
 
     @property
     def what(self) -> str:

@@ -1,4 +1,6 @@
 """The order of the work: words, the kept report, the other one, what is printed."""
+from __future__ import annotations
+
 import functools
 import json
 import os

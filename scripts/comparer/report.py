@@ -1,4 +1,6 @@
 """A report as `rim measure --json` writes it, of each version that it has had."""
+from __future__ import annotations
+
 import re
 from collections.abc import Sequence
 from dataclasses import dataclass

@@ -3,6 +3,8 @@
 The labels, the tags, the profile and the members of the JSON are from memory of the draft, of the profile for CCA realms and of cocli: nothing
 that can be installed here has them. docs/VERIFIER.md says so of each.
 """
+from __future__ import annotations
+
 import base64
 import json
 import uuid

@@ -1,4 +1,6 @@
 """Runs of `rim` over manifests that are written for it."""
+from __future__ import annotations
+
 import functools
 import itertools
 import os

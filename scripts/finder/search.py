@@ -1,4 +1,6 @@
 """The launches that are tried: each once, in the order in which they are given, and as many in a run of `rim` as a manifest has."""
+from __future__ import annotations
+
 import math
 import time
 from collections import deque

@@ -1,4 +1,6 @@
 """Where a kernel begins, and with what REC 0 begins where a manifest does not say it: `rim` says both, of a launch that has nothing else."""
+from __future__ import annotations
+
 import os
 from dataclasses import replace
 

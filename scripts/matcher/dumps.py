@@ -1,4 +1,6 @@
 """Devicetrees that QEMU makes anew by changed words: those of the launch are in the record.json of the folder that rim-manifest has written."""
+from __future__ import annotations
+
 import os
 from dataclasses import dataclass, field, replace
 

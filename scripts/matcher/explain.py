@@ -1,5 +1,7 @@
 """What a step of a launch is, by the launch's own names: an item and the bytes of its file, a region of RAM, a register of a REC; and where the
 pages of a machine's trace are in files that are named."""
+from __future__ import annotations
+
 import hashlib
 import json
 import os

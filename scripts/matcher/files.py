@@ -1,5 +1,7 @@
 """The files of launches: where each is, how long it is, and the header of a kernel. Some are of a manifest, some are named beside it, and
 some are made here: a devicetree for another launch, a file that is cut short."""
+from __future__ import annotations
+
 import hashlib
 import os
 from dataclasses import dataclass, field

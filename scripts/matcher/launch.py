@@ -1,4 +1,6 @@
 """A launch: what its table in the manifest says, and the text of its table. What of it is measured, `rim` says."""
+from __future__ import annotations
+
 import functools
 import json
 from collections.abc import Hashable, Iterable, Mapping

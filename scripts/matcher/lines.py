@@ -1,4 +1,6 @@
 """The lines of a manifest by which one launch differs from another, each with what the manifest has."""
+from __future__ import annotations
+
 from collections.abc import Mapping
 from dataclasses import fields
 

@@ -2,8 +2,11 @@
 
 A step is the words of a command that is measured. A word that a log has not is None: nothing is known of it.
 """
+from __future__ import annotations
+
 from collections.abc import Callable, Iterable
 from dataclasses import dataclass
+from typing import Optional
 
 from outside import files, parameters
 from outside.faults import Fault
@@ -18,7 +21,7 @@ WORDS = {
     "data_create": ("ipa", "measured", "contents"),
     "rec_create": ("flags", "mpidr", "pc", *(f"x{number}" for number in range(8))),
 }
-Step = tuple[str | None, ...]
+Step = tuple[Optional[str], ...]
 # A monitor's own log, as TF-RMM is remembered to print it: `SMC_RMI_` and the command, its arguments as hexadecimal digits, `>` and what came.
 MONITOR = "SMC_RMI_"
 WHAT = "lines as `rim trace` prints them"

@@ -1,4 +1,6 @@
 """The order of the work: the launch as it is, the search, what is printed."""
+from __future__ import annotations
+
 import math
 import shutil
 import sys

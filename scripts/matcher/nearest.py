@@ -1,4 +1,6 @@
 """Which launch of a manifest shares the longest beginning with what a machine has logged, and where it parts from it."""
+from __future__ import annotations
+
 import itertools
 from collections import Counter
 from collections.abc import Sequence
@@ -76,7 +78,7 @@ def of_launches(rim: Rim, manifest: str, names: list[str], there: Log) -> Found:
         if ran.status == 0:
             lines = out.splitlines()
             here = there.of_trace(lines)
-            found.take(Near(name, shared(here, there.steps), (counted(here, there) & steps).total()), lines, here)
+            found.take(Near(name, shared(here, there.steps), sum((counted(here, there) & steps).values())), lines, here)
         elif ran.status == 1:
             found.refused.append(out.strip())
         else:

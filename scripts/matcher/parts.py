@@ -3,11 +3,14 @@
 A machine that is between two launches is likelier than one that is wrong in a number: it has the kernel of one release and the initrd of
 another, or the devicetree of another size of RAM. Each part is an axis of the finder's search; its own is the likeliest.
 """
+from __future__ import annotations
+
 from collections.abc import Callable, Iterable, Iterator, Sequence
 from dataclasses import dataclass, field, replace
 
 from finder.axes import At, Axis, best_first
 from finder.runs import Candidate
+from typing import Optional
 from outside.texts import quoted
 
 from . import people, trees
@@ -19,7 +22,7 @@ from .program import Change, Runs
 MOST_WAYS, MOST_TRIED = 64, 8192
 # How likely a part is that of this launch, and how likely a devicetree is where and as it was.
 OWN, AS_IT_IS = 0.8, 0.3
-Way = Callable[[Launch], Launch | None]
+Way = Callable[[Launch], Optional[Launch]]
 
 
 @dataclass(frozen=True)

@@ -3,6 +3,8 @@
 Each is a change of the whole launch: a devicetree that said what there was says what there is, and what comes right after something that
 has grown comes later. Where a tree can't be written for that, the launch has it as it is.
 """
+from __future__ import annotations
+
 import zlib
 from collections.abc import Callable, Iterator
 from dataclasses import replace

@@ -1,4 +1,6 @@
 """Runs of `rim` over launches: a manifest has the files that its launches name, and paths are as from where the user is."""
+from __future__ import annotations
+
 import hashlib
 from collections.abc import Sequence
 from dataclasses import dataclass, field

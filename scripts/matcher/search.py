@@ -1,4 +1,6 @@
 """What is tried near a launch, round by round: the launch as it is, and then what its axes change."""
+from __future__ import annotations
+
 import itertools
 import math
 from collections.abc import Iterator

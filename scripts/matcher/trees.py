@@ -3,6 +3,8 @@
 `rim fdt` says what a tree has, and it is written anew from that, as libfdt writes it. A tree that would not be the same bytes with nothing
 changed is left alone: another program has written it, or it has something that nobody sees here.
 """
+from __future__ import annotations
+
 import copy
 import struct
 from collections.abc import Callable, Iterator

@@ -1,4 +1,6 @@
 """The words of a command line."""
+from __future__ import annotations
+
 from collections.abc import Callable
 from dataclasses import dataclass, replace
 

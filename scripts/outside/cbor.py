@@ -1,5 +1,7 @@
 """CBOR (RFC 8949) of somebody else, as data. It is read strictly: a length is compared with what is there before anything is made of that
 length, a map has each key once, tags are kept and not interpreted, and depth has a limit. So bytes have one reading, or are a fault."""
+from __future__ import annotations
+
 from dataclasses import dataclass
 
 # How deep arrays, maps and tags may be within one another.
@@ -102,25 +104,20 @@ class Reader:
         if depth > MOST_DEPTH:
             raise Malformed(f"it is deeper than {MOST_DEPTH} at byte {self.at}")
         major, number, low = self.head()
-        match major:
-            case 2:
-                return self.string(BYTES, number)
-            case 3:
-                return self.text(number)
-            case 4:
-                return [self.value(depth + 1) for _ in self.count(number, 1)]
-            case 5:
-                return self.map(number, depth + 1)
+        if major == BYTES:
+            return self.string(BYTES, number)
+        if major == TEXT:
+            return self.text(number)
+        if major == ARRAY:
+            return [self.value(depth + 1) for _ in self.count(number, 1)]
+        if major == MAP:
+            return self.map(number, depth + 1)
         assert number is not None
-        match major:
-            case 0:
-                return number
-            case 1:
-                return -1 - number
-            case 6:
-                return Tag(number, self.value(depth + 1))
-            case _:
-                return self.other(number, low)
+        if major == UNSIGNED:
+            return number
+        if major == NEGATIVE:
+            return -1 - number
+        return Tag(number, self.value(depth + 1)) if major == TAG else self.other(number, low)
 
 
 def decoded(data: bytes) -> object:
@@ -142,21 +139,19 @@ def head_of(major: int, number: int) -> bytes:
 
 def encoded(value: object) -> bytes:
     """A value in the one way of RFC 8949, 4.2.1: shortest heads, and maps in the order of their keys' bytes."""
-    match value:
-        case bool() | None:
-            return bytes([OTHER << 5 | (22 if value is None else 20 + value)])
-        case int():
-            return head_of(UNSIGNED, value) if value >= 0 else head_of(NEGATIVE, -1 - value)
-        case bytes():
-            return head_of(BYTES, len(value)) + value
-        case str():
-            return head_of(TEXT, len(value.encode())) + value.encode()
-        case list() | tuple():
-            return head_of(ARRAY, len(value)) + b"".join(map(encoded, value))
-        case dict():
-            pairs = sorted((encoded(key), encoded(each)) for key, each in value.items())
-            return head_of(MAP, len(value)) + b"".join(key + each for key, each in pairs)
-        case Tag():
-            return head_of(TAG, value.number) + encoded(value.value)
-        case _:
-            raise TypeError(f"{type(value).__name__} is no value of CBOR here")
+    if value is None or isinstance(value, bool):
+        return bytes([OTHER << 5 | (22 if value is None else 20 + value)])
+    if isinstance(value, int):
+        return head_of(UNSIGNED, value) if value >= 0 else head_of(NEGATIVE, -1 - value)
+    if isinstance(value, bytes):
+        return head_of(BYTES, len(value)) + value
+    if isinstance(value, str):
+        return head_of(TEXT, len(value.encode())) + value.encode()
+    if isinstance(value, (list, tuple)):
+        return head_of(ARRAY, len(value)) + b"".join(map(encoded, value))
+    if isinstance(value, dict):
+        pairs = sorted((encoded(key), encoded(each)) for key, each in value.items())
+        return head_of(MAP, len(value)) + b"".join(key + each for key, each in pairs)
+    if isinstance(value, Tag):
+        return head_of(TAG, value.number) + encoded(value.value)
+    raise TypeError(f"{type(value).__name__} is no value of CBOR here")

@@ -1,12 +1,16 @@
 """Files: read with limits, and written with their path in each fault. What a file says is read as TOML or JSON without traps."""
+from __future__ import annotations
+
+import importlib
 import json
 import os
 import shutil
 import stat
+import sys
 import tempfile
-import tomllib
 from collections.abc import Iterator
 from contextlib import contextmanager
+from types import ModuleType
 
 from .faults import Fault
 from .stopping import held
@@ -91,11 +95,21 @@ def text_of(path: str, data: bytes, what: str) -> str:
         raise Fault(f"{visible(path)}: it is no UTF-8 at byte {why.start}, expected {what}") from None
 
 
+def toml_reader(path: str) -> ModuleType:
+    """The module that reads TOML: Python's own since 3.11, which is tomli, that older ones need beside them."""
+    name = "tomllib" if sys.version_info >= (3, 11) else "tomli"
+    try:
+        return importlib.import_module(name)
+    except ModuleNotFoundError:
+        version = ".".join(map(str, sys.version_info[:2]))
+        raise Fault(f"{visible(path)}: Python {version} reads no TOML, expected the module {name} beside it, or Python 3.11 or later") from None
+
+
 def toml_of(path: str, data: bytes, what: str = "TOML 1.0") -> dict[str, object]:
     """The table of a file of TOML. What Python cannot read is a fault: numbers of thousands of digits, thousands of arrays in one another."""
-    text = text_of(path, data, what)
+    text, reader = text_of(path, data, what), toml_reader(path)
     try:
-        return tomllib.loads(text)
+        return reader.loads(text)
     except (ValueError, RecursionError) as why:
         raise Fault(f"{visible(path)}: it is no TOML that is read here ({reason(why)}), expected {what}") from None
 

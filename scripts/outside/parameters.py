@@ -1,5 +1,7 @@
 """The numbers of a realm that are measured: a row each, for the monitor of one version. What reads, searches or writes them goes by the rows.
 How likely an alternative is, and what is usual, is from memory: nothing that can be installed settles it."""
+from __future__ import annotations
+
 from collections.abc import Iterable
 from dataclasses import dataclass
 

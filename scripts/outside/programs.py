@@ -3,6 +3,8 @@
 A program is started in a session of its own, and all that is in its process group is killed where it ends, takes too long, says too
 much, or the script is stopped. What it says is read as it comes, so that it never waits for the script.
 """
+from __future__ import annotations
+
 import os
 import resource
 import selectors

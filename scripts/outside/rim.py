@@ -1,4 +1,6 @@
 """What `rim` says of files: the header of an arm64 Image, and a devicetree. No second reader of them is here."""
+from __future__ import annotations
+
 import io
 import struct
 import sys

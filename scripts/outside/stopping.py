@@ -4,6 +4,8 @@ those after it change nothing, so that the way out is gone once and to its end.
 Python runs a handler in the main thread, and not before what that waits for has come: it may wait for a thread that waits for a program.
 So a thread of its own ends the programs, and all waits end with them.
 """
+from __future__ import annotations
+
 import os
 import signal
 import threading

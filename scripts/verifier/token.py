@@ -2,6 +2,8 @@
 
 Labels and tags are from memory of the CCA token's profile (draft-ffm-rats-cca-token), as docs/VERIFIER.md says of each.
 """
+from __future__ import annotations
+
 import base64
 import binascii
 import re

@@ -1,5 +1,7 @@
 """What is asked for: the options of rim-manifest, and a hypervisor's command line. That is after `--`, in a file, or made of a domain of
 libvirt's; an option that says the same counts in its place. A command line is one launch: only options ask for several."""
+from __future__ import annotations
+
 from dataclasses import dataclass, field, replace
 
 from outside import files

@@ -1,4 +1,6 @@
 """The five checks of a launch against its devicetree, and the layout's own. Each difference names both sides."""
+from __future__ import annotations
+
 import os
 import re
 from collections.abc import Iterator

@@ -1,4 +1,6 @@
 """cloud-hypervisor for arm64: the table of its layout, and the values of its words. Nothing of it was tried."""
+from __future__ import annotations
+
 from collections.abc import Callable
 
 from outside.faults import WrongWords

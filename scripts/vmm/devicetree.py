@@ -1,4 +1,6 @@
 """What the checks ask of a devicetree, as `rim fdt` has read it."""
+from __future__ import annotations
+
 from outside.rim import Node, Tree
 
 # The interrupt controllers, by what their nodes are compatible with.

@@ -28,6 +28,8 @@ RECORD_VERSION = 2
 MOST_RECORD = 64 << 20
 # How many names a fault has.
 MOST_NAMES = 5
+# How many bytes of a file are read at a time.
+PART = 1 << 20
 # What measures: it is taken away first and put in its place last.
 MEASURES = re.compile(r"manifest(-[0-9]+)?\.toml|measure")
 
@@ -185,7 +187,10 @@ def digest_of(path: str) -> str:
         if not stat.S_ISREG(os.lstat(path).st_mode):
             return ""
         with open(files.opened(path, "a file"), "rb") as file:
-            return hashlib.file_digest(file, "sha256").hexdigest()
+            digest = hashlib.sha256()
+            while part := file.read(PART):
+                digest.update(part)
+            return digest.hexdigest()
     except OSError:
         return ""
 

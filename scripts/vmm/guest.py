@@ -1,4 +1,6 @@
 """What a launch is made of, as the words say it."""
+from __future__ import annotations
+
 from collections.abc import Mapping
 from dataclasses import dataclass, field
 
@@ -24,13 +26,13 @@ class Blob:
     length: int
     label: str
     digest: str
-    source: str = ""
+    source: str
 
 
 @dataclass(frozen=True)
 class Kernel(Blob):
-    image: Image = field(kw_only=True)
-    how: str = field(kw_only=True)  # how its bytes were made of those of the path, or nothing
+    image: Image
+    how: str    # how its bytes were made of those of the path, or nothing
 
 
 @dataclass(frozen=True)

@@ -1,4 +1,6 @@
 """The file about a host: what no words say. vmm/host-example.toml explains each key."""
+from __future__ import annotations
+
 import os
 import re
 from dataclasses import dataclass, field
@@ -72,7 +74,7 @@ def read(path: str, rows: dict[str, Row], is_settled: bool = True) -> Host:
     for key, value in table.items():
         if expected := wrong(key, value):
             raise Fault(f"{visible(path)}: {key_shown(key)} = {value_shown(value)}, expected {expected}")
-        if isinstance(value, int | str):
+        if isinstance(value, (int, str)):
             values[key] = value
     for key in set(realm) & set(values) & {"block_level", "rec_rule"}:
         raise Fault(f"{visible(path)}: {key}: it is given twice, once in [{REALM}], expected it there alone")

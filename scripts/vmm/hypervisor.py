@@ -1,4 +1,6 @@
 """What a hypervisor is to rim-manifest: its layout, its words, and facts about it. A module of vmm is one where it has all of this."""
+from __future__ import annotations
+
 from collections.abc import Callable
 from dataclasses import dataclass, field
 from typing import Protocol

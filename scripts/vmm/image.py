@@ -1,4 +1,6 @@
 """Files as hypervisors load them: what of a kernel they unpack, and what they do with an initrd."""
+from __future__ import annotations
+
 import hashlib
 import os
 import re
@@ -45,7 +47,7 @@ def kernel(made: Folder, rim: Rim, path: str, label: str, name: str, vmm: Hyperv
     image = header(rim, os.path.join(made.path, name), path)
     if image is None:
         raise Fault(f"{visible(path)}: {kind_of(data)}, expected an arm64 Image")
-    return Kernel(blob.file, blob.path, blob.origin, blob.length, blob.label, blob.digest, blob.source, image=image, how=how)
+    return Kernel(blob.file, blob.path, blob.origin, blob.length, blob.label, blob.digest, blob.source, image, how)
 
 
 def header(rim: Rim, copy: str, path: str) -> Image | None:

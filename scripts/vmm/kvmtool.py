@@ -1,4 +1,6 @@
 """kvmtool (`lkvm run`) for arm64: the table of its layout, and the values of its words. All is remembered, and nothing was tried."""
+from __future__ import annotations
+
 import re
 from collections.abc import Callable
 

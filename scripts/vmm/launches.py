@@ -1,4 +1,6 @@
 """A launch for each combination, with a name that says it, and groups of launches for each manifest."""
+from __future__ import annotations
+
 import math
 from dataclasses import dataclass
 

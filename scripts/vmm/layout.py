@@ -1,5 +1,7 @@
 """Tables of layouts: a row for each thing that a hypervisor decides, with its formula, its source and how sure it is. A row that a realm
 may change has its alternatives too, the likeliest first."""
+from __future__ import annotations
+
 from collections.abc import Callable, Iterable
 from dataclasses import dataclass, field
 from typing import Any

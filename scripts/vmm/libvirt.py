@@ -3,6 +3,8 @@ elements that change nothing which is measured are in a table. One that is in no
 
 What comes of each element is remembered of libvirt's sources (qemu_command.c), and was not tried with a libvirt.
 """
+from __future__ import annotations
+
 import re
 from collections.abc import Callable
 from xml.etree import ElementTree

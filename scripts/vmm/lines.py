@@ -4,6 +4,8 @@ A text is read as a POSIX shell reads it: quotes, backslashes, comments, lines t
 join lines, and does not say which `$` was between quotes. What a shell would expand is refused where it is in the hypervisor's command:
 no shell is run, so what comes of it is not known.
 """
+from __future__ import annotations
+
 import os
 import re
 from dataclasses import dataclass, field

@@ -1,4 +1,6 @@
 """The text of a manifest: version 2, in which each number has the word or the rule that it comes from."""
+from __future__ import annotations
+
 import json
 import shlex
 from dataclasses import dataclass

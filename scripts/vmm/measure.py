@@ -13,8 +13,8 @@ import signal
 import sys
 
 # This file is read by older versions of Python too, so that they can say this.
-if sys.version_info[:2] < (3, 11):
-    sys.stderr.write("measure: Python %d.%d runs it (%s), expected Python 3.11 or later\n" % (*sys.version_info[:2], sys.executable))
+if sys.version_info[:2] < (3, 9):
+    sys.stderr.write("measure: Python %d.%d runs it (%s), expected Python 3.9 or later\n" % (*sys.version_info[:2], sys.executable))
     sys.exit(3)
 if __name__ == "__main__" and signal.getsignal(signal.SIGINT) is signal.default_int_handler:
     # from here on, and until this script heeds it: Python's own way to be interrupted is a page of lines

@@ -1,4 +1,6 @@
 """The numbers of a machine that a search tries: those that the file about the host gives, those beside them, and then all of their range."""
+from __future__ import annotations
+
 from collections.abc import Mapping, Sequence
 from dataclasses import dataclass
 

@@ -1,4 +1,6 @@
 """QEMU's machine `virt`, started with -kernel: the table of its layout, and the values of its words."""
+from __future__ import annotations
+
 import math
 import re
 from collections.abc import Callable

@@ -1,4 +1,6 @@
 """Firmware of QEMU: which words of a line say it, and which file it is. A realm has no flash, so a flash of firmware is its file."""
+from __future__ import annotations
+
 from outside.texts import shown
 
 from .sorting import Given, Sorted

@@ -3,6 +3,8 @@
 A dump is a start of QEMU, perhaps beside the guest itself. So it is given no word that opens, empties or replaces a file, a socket or a
 device: only those that change the devicetree, and these without their paths. A word that is in no table is refused.
 """
+from __future__ import annotations
+
 import json
 import re
 from collections import Counter

@@ -1,4 +1,6 @@
 """A launch as a manifest has it: numbers, RAM, items, RECs and steps, by the places of its table and by the alternatives that are taken."""
+from __future__ import annotations
+
 from collections.abc import Mapping
 from dataclasses import dataclass
 

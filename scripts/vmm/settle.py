@@ -4,6 +4,8 @@ the host.
 The rows of which a blob, RAM or a step depends are one axis: all of their combinations, those that are measured alike as one. The width of
 an IPA and each number is an axis of its own. Of a trace the first line is of these alone, so they are found by it, and then the rest.
 """
+from __future__ import annotations
+
 import functools
 import hashlib
 import itertools
@@ -15,6 +17,7 @@ from finder.axes import At, Axis, best_first, count_of
 from finder.progress import Progress
 from finder.runs import Candidate, Runs
 from finder.search import COSTLY, Search
+from typing import Union
 from outside.faults import Fault
 from outside.measurement import Value
 from outside.parameters import RMM_1_0, Parameter
@@ -316,7 +319,7 @@ def settled_of(cases: Sequence[Case], choices: Choices, at: At, algo: str | None
     """What a combination says."""
     structure, width = at[:2]
     taken = choices.taken(choices.structures[structure][0])
-    ways, values = dict(taken) | {"s2sz": choices.widths[width].name}, dict[str, int | bool]()
+    ways, values = dict(taken) | {"s2sz": choices.widths[width].name}, dict[str, Union[int, bool]]()
     if algo:
         ways["hash"] = algo
     for about, feature in zip(RMM_1_0, choices.features_at(at)):

@@ -1,4 +1,6 @@
 """The words of `rim-manifest settle`, the guests that it is given, and the file about the host that it writes."""
+from __future__ import annotations
+
 import os
 import sys
 from collections.abc import Mapping, Sequence

@@ -1,5 +1,7 @@
 """Tables of a hypervisor's words, and how words are sorted by such a table: what of them makes the layout, what changes the devicetree
 alone, what changes nothing, what no launch can be made with. What is in no table is unknown, and all that is unknown is named at once."""
+from __future__ import annotations
+
 from collections import deque
 from collections.abc import Callable, Iterable
 from dataclasses import dataclass, field

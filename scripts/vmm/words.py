@@ -1,4 +1,6 @@
 """The words of the command line: options, lists of values, sizes."""
+from __future__ import annotations
+
 import base64
 import binascii
 import re

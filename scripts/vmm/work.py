@@ -1,4 +1,6 @@
 """One run: what is asked for, the host, and the folder that is being made."""
+from __future__ import annotations
+
 import hashlib
 import os
 import shutil
