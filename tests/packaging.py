@@ -1,5 +1,5 @@
 #!/usr/bin/env python3
-"""Has tools/package/deb.sh make the package and the archive twice, of the last commit, and compares both.
+"""Has tools/package/deb.sh make the packages and the archives twice, of the last commit, and compares both.
 
     tests/packaging.py
 
@@ -56,12 +56,13 @@ def modes_of_package(here: str, path: str) -> list[str]:
 
 def broken_links(here: str, path: str) -> list[str]:
     """Links of the documents of an archive that lead nowhere in it."""
+    tree = pathlib.Path(here, "tree", os.path.basename(path))
     with tarfile.open(path) as archive:
-        archive.extractall(os.path.join(here, "tree"), filter="data")
-    links.TOP = next(pathlib.Path(here, "tree").iterdir()) / "share" / "doc" / "rim"
+        archive.extractall(tree, filter="data")
+    links.TOP = next(tree.iterdir()) / "share" / "doc" / "rim"
     found = list(links.links())
     wrong = [f"{page}: {link} leads nowhere" for page, link, ends in found if not ends]
-    return wrong + ["there are no links"] * (not found)
+    return wrong + [f"{tree.name}: there are no links"] * (not found)
 
 
 def packages(here: str) -> list[str] | None:
@@ -82,7 +83,7 @@ def packages(here: str) -> list[str] | None:
         file.write(GITCONFIG.format(here))
     hostile = made(here, "hostile", 0, TMPDIR="temporary", **HOSTILE)
     wrong = [f"{name} is another one" for name in plain[2] if plain[2][name] != hostile[2].get(name)]
-    wrong += [f"{said!r}" for said in (plain[1], hostile[1]) if said] + [f"{sorted(plain[2])}"] * (len(plain[2]) != 2)
+    wrong += [f"{said!r}" for said in (plain[1], hostile[1]) if said] + [f"{sorted(plain[2])}"] * (len(plain[2]) != 4)
     for name in hostile[2]:
         path = os.path.join(here, "hostile", name)
         found = modes_of_package(here, path) if name.endswith(".deb") else modes(path)
@@ -90,7 +91,7 @@ def packages(here: str) -> list[str] | None:
         with tarfile.open(path if name.endswith(".gz") else os.path.join(here, "package.tar")) as archive:
             folders = {"outside", "vmm", "matcher", "comparer"} - {os.path.basename(each.name) for each in archive if each.isdir()}
         wrong += [f"{name}: there is no {each}" for each in folders]
-    wrong += broken_links(here, *(os.path.join(here, "plain", name) for name in plain[2] if name.endswith(".gz")))
+    wrong += [line for name in plain[2] if name.endswith(".gz") for line in broken_links(here, os.path.join(here, "plain", name))]
     return wrong + [f"{each} is left" for each in os.listdir(temporary)]
 
 

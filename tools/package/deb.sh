@@ -1,7 +1,8 @@
 #!/bin/sh
-# Makes a package for Debian and an archive with the same tree, which runs where it is unpacked:
+# Makes for each processor a package for Debian and an archive with the same tree, which runs where it is unpacked:
 #
-#   tools/package/deb.sh [FOLDER]       rim_VERSION_amd64.deb and rim-VERSION-x86_64-linux.tar.gz in FOLDER, by default out/
+#   tools/package/deb.sh [FOLDER]       rim_VERSION_amd64.deb, rim-VERSION-x86_64-linux.tar.gz, rim_VERSION_arm64.deb and
+#                                       rim-VERSION-aarch64-linux.tar.gz in FOLDER, by default out/
 #
 # They are made of the last commit, so what is not committed is not in them; dist/ has to be of its sources. The same commit gives the
 # same bytes again, where dpkg-deb, xz, tar and gzip are of the same versions: each time is that of the commit, or SOURCE_DATE_EPOCH.
@@ -43,9 +44,14 @@ put_packed() {
 }
 
 put_programs() {
-    put 755 tools/package/rim bin/rim
-    put 755 dist/rim-x86_64-v2 libexec/rim/x86-64-v2/rim
-    put 755 dist/rim-x86_64-v3 libexec/rim/x86-64-v3/rim
+    case $machine in
+    x86_64)
+        put 755 tools/package/rim bin/rim
+        put 755 dist/rim-x86_64-v2 libexec/rim/x86-64-v2/rim
+        put 755 dist/rim-x86_64-v3 libexec/rim/x86-64-v3/rim
+        ;;
+    *) put 755 "dist/rim-$machine" bin/rim ;;
+    esac
     for script in rim-manifest rim-match rim-compare rim-verify rim-endorse; do
         [ ! -f "$script" ] || put 755 "$script" "bin/$script"
     done
@@ -70,12 +76,12 @@ put_documents() {
 }
 
 put_completions() {
-    tools/package/completions.py "$work/completions"
+    tools/package/completions.py "$work/completions-$arch"
     for program in rim rim-manifest rim-match rim-compare rim-verify rim-endorse; do
         [ "$program" = rim ] || [ -f "$program" ] || continue
-        put 644 "$work/completions/$program.bash" "share/bash-completion/completions/$program"
-        put 644 "$work/completions/_$program" "share/zsh/vendor-completions/_$program"
-        put 644 "$work/completions/$program.fish" "share/fish/vendor_completions.d/$program.fish"
+        put 644 "$work/completions-$arch/$program.bash" "share/bash-completion/completions/$program"
+        put 644 "$work/completions-$arch/_$program" "share/zsh/vendor-completions/_$program"
+        put 644 "$work/completions-$arch/$program.fish" "share/fish/vendor_completions.d/$program.fish"
     done
 }
 
@@ -86,6 +92,13 @@ packaged_copyright() {
     echo "Files: *"
     sed -n 's/^Copyright (c) /Copyright: /p' LICENSE-MIT
     echo "License: Apache-2.0 or MIT"
+    echo "Comment:"
+    echo " The programs have in them what they call of the GNU C library (LGPL-2.1 or later)"
+    echo " and of GCC's own functions (GPL-3 with the GCC Runtime Library Exception). Those"
+    echo " were of the packages"
+    sed -n 's/^package \([^ ]*\) \([^ ]*\) .*/ \1 \2/p' dist/SOURCE
+    echo " of Debian. What they are linked with is built of the sources of rim, by the kit"
+    echo " that its README.md names."
     echo
     echo "License: Apache-2.0"
     echo " The whole text is in /usr/share/common-licenses/Apache-2.0."
@@ -103,16 +116,14 @@ packaged_changes() {
 }
 
 control() {
-    needs="libc6 (>= $(cat dist/rim-* | grep -ao 'GLIBC_[0-9.]*' | sort -uV | sed -n '$s/GLIBC_//p'))"
-    [ ! -f rim-manifest ] || needs="$needs, python3 (>= 3.11)"
     size=$(find "$package/usr" -printf '%y %s\n' | awk '{ kib += $1 == "f" ? int(($2 + 1023) / 1024) : 1 } END { print kib }')
     cat <<END
 Package: rim
 Version: $version
-Architecture: amd64
+Architecture: $arch
 Maintainer: $maintainer
 Installed-Size: $size
-Depends: $needs
+Depends: python3 (>= 3.9), python3 (>= 3.11) | python3-tomli
 Section: utils
 Priority: optional
 Description: expected measurements of Arm CCA realms
@@ -134,10 +145,17 @@ set_times() {
     find "$1" -exec touch -h -d "@$SOURCE_DATE_EPOCH" {} +
 }
 
+# That the programs have the C library in them is as it should be.
+overrides() {
+    echo "rim: statically-linked-binary [usr/*]"
+}
+
 # The tree as it is installed in /usr. There an interpreter has the path of the system's.
 make_package() {
     mkdir -p "$package/DEBIAN"
     cp -R "$tree" "$package/usr"
+    mkdir -p "$package/usr/share/lintian/overrides"
+    overrides >"$package/usr/share/lintian/overrides/rim"
     find "$package/usr" -type f -perm -u+x -exec sed -i '1s|^#!/usr/bin/env python3$|#!/usr/bin/python3|' {} +
     control >"$package/DEBIAN/control"
     (cd "$package" && find usr -type f | sort | xargs md5sum) >"$package/DEBIAN/md5sums"
@@ -189,16 +207,23 @@ is_dist_of_sources || fail "dist/ is not of the sources of this commit: tools/pa
 version=$(dist/rim-x86_64-v2 --version | cut -d ' ' -f 2)
 expr "$version" : '[0-9][0-9.]*$' >/dev/null || fail "the program's version is $version, expected a number"
 
-tree=$work/rim-$version-x86_64-linux
-package=$work/package
-deb=rim_${version}_amd64.deb
-archive=${tree##*/}.tar.gz
-put_programs
-put_documents
-put_completions
-make_package
-make_archive
-place "$deb"
-place "$archive"
+made=
+for both in x86_64:amd64 aarch64:arm64; do
+    machine=${both%:*}
+    arch=${both#*:}
+    tree=$work/rim-$version-$machine-linux
+    package=$work/package-$arch
+    deb=rim_${version}_$arch.deb
+    archive=${tree##*/}.tar.gz
+    put_programs
+    put_documents
+    put_completions
+    make_package
+    make_archive
+    place "$deb"
+    place "$archive"
+    made="$made $deb $archive"
+done
 cd "$out"
-sha256sum "$deb" "$archive"
+# shellcheck disable=SC2086 # the names are words
+sha256sum $made
