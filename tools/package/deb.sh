@@ -145,9 +145,9 @@ set_times() {
     find "$1" -exec touch -h -d "@$SOURCE_DATE_EPOCH" {} +
 }
 
-# That the programs have the C library in them is as it should be.
+# A program that has the C library in it and may be put at any address is taken for a shared library.
 overrides() {
-    echo "rim: statically-linked-binary [usr/*]"
+    echo "rim: shared-library-lacks-prerequisites [usr/*]"
 }
 
 # The tree as it is installed in /usr. There an interpreter has the path of the system's.
