@@ -123,7 +123,8 @@ Version: $version
 Architecture: $arch
 Maintainer: $maintainer
 Installed-Size: $size
-Depends: python3 (>= 3.9), python3 (>= 3.11) | python3-tomli
+Depends: python3 (>= 3.9)
+Recommends: python3 (>= 3.11) | python3-tomli
 Section: utils
 Priority: optional
 Description: expected measurements of Arm CCA realms
