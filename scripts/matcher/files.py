@@ -77,15 +77,17 @@ class Files(dict[str, Blob]):
         return files.read(self[name].path, MOST)
 
     def made(self, about: str, data: bytes) -> str | None:
-        """A file of some bytes that are made here, each once; None where too many were made."""
-        digest = hashlib.blake2b(data).digest()
+        """A file of some bytes that are made here, each once; None where too many were made. A devicetree is mostly zeros, which need not be
+        hashed and written."""
+        some = files.filled(data)
+        digest = hashlib.blake2b(some + len(data).to_bytes(8, "big")).digest()
         if digest not in self.of_bytes:
             if self.made_bytes + len(data) > MOST_MADE or not self.folder:
                 self.is_full = True
                 return None
             self.made_bytes += len(data)
             path = os.path.abspath(os.path.join(self.folder, f"made-{len(self.of_bytes) + 1}"))
-            files.write(path, data)
+            files.write(path, some, length=len(data))
             self.of_bytes[digest] = self.add(os.path.basename(path), path, about, True)
         return self.of_bytes[digest]
 

@@ -68,10 +68,20 @@ def size_of(path: str, what: str = "a file") -> int:
         return os.fstat(file.fileno()).st_size
 
 
-def write(path: str, data: bytes, name: str = ""):
-    """Writes a new file, or one anew; `name` is what a fault calls it."""
+def write(path: str, data: bytes, name: str = "", length: int | None = None):
+    """Writes a new file, or one anew, with zeros after its bytes up to a length; `name` is what a fault calls it."""
     with faults_of(name or path, "that it can be written"), open(path, "wb") as file:
         file.write(data)
+        if length is not None:
+            file.truncate(length)
+
+
+def filled(data: bytes, step: int = 1 << 16) -> bytes:
+    """Some bytes without zeros at their end; these are looked at by so many, so that few may be left."""
+    zeros, end = bytes(step), len(data)
+    while end >= step and data[end - step:end] == zeros:
+        end -= step
+    return data[:end]
 
 
 @contextmanager
