@@ -80,7 +80,7 @@ class Search:
     rounds: list[Round] = field(default_factory=list)
     made: int = 0
     costly: int = 0
-    keys: set[object] = field(default_factory=set)              # of all launches that were tried: what they are told apart by, whole
+    keys: set[object] = field(default_factory=set)              # of all launches that were tried: by what one is known from another, whole
     doubles: dict[object, list[Candidate]] = field(default_factory=dict)
     had: object = None                                          # the key of a launch that has the value, and did not fit
     fitting: Candidate | None = None
