@@ -365,6 +365,22 @@ def large_files(_path: str) -> list[str]:
                     (100, ["large-3", *(f"small-{number}" for number in range(3))])])
 
 
+class Growing(dict):
+    """Files of which another thread makes more: to go over all of them may fail."""
+
+    def items(self):
+        raise RuntimeError("dictionary changed size during iteration")
+
+    __iter__ = keys = values = items
+
+
+def heads(_path: str) -> list[str]:
+    """The files of a manifest are written while others are made."""
+    growing = Growing({name: files.Blob(f"{name}.bin", 1, None) for name in ("one", "two", "three")})
+    return differs("the files", manifest_head({"two", "one"}, growing),
+                   'rim_manifest = 2\n[[file]]\nname = "one"\npath = "one.bin"\n[[file]]\nname = "two"\npath = "two.bin"\n')
+
+
 class NeverRuns:
     """Runs of `rim` by which no launch has the value: they keep what they are given."""
 
@@ -807,7 +823,7 @@ def all_tries(program: str):
             yield f"lines of {axis.name} of {name}", lambda axis=axis, name=name: lines_of(program, axis, name)
     for name in ("plain", "stub", "old"):
         yield f"with what {name} begins", lambda name=name: begins(program, name)
-    for look in (in_runs, large_files, many_steps, rounds, at_once, fitting, forms, others, alike, stopped, hidden, lines_said, not_found, words, refused, traces, terminal, installed, documents, example):
+    for look in (in_runs, large_files, heads, many_steps, rounds, at_once, fitting, forms, others, alike, stopped, hidden, lines_said, not_found, words, refused, traces, terminal, installed, documents, example):
         yield look.__name__, lambda look=look: look(program)
 
 

@@ -248,6 +248,6 @@ def table_text(launch: Launch) -> str:
 
 
 def manifest_head(names: set[str], files: Mapping[str, Blob]) -> str:
-    """What is before the launches in a manifest: these files."""
-    heads = [f"[[file]]\nname = {text(name)}\npath = {text(blob.path)}\n" for name, blob in files.items() if name in names]
+    """What is before the launches in a manifest: these files. More of them may be made meanwhile, by another thread."""
+    heads = [f"[[file]]\nname = {text(name)}\npath = {text(files[name].path)}\n" for name in sorted(names)]
     return "".join(["rim_manifest = 2\n", *heads])
