@@ -1,6 +1,7 @@
 //! The order in which the launches of a run are to be chained. No value depends on it.
 //!
 //! A launch that goes on from an earlier one is offered when the worker that chains that one hands over the prefix that both have.
+//! Launches are offered by algorithm, since only those by the same one are chained side by side.
 use refusal::NoMemory;
 use rim_chain::{LaunchPlan, SharedPrefix, SharedPrefixes};
 use rim_desc::Algo;
@@ -30,17 +31,25 @@ struct Candidate {
 /// begin with the same pages come one after another, and a worker has most digests in its row already.
 const STEP: u64 = 1_024;
 
+/// A launch of the run: its place in the order, and by which algorithm it is measured.
+#[derive(Clone, Copy)]
+struct Ranked {
+    candidate: Candidate,
+    algo: Algo,
+}
+
 /// Launches of which no prefix is still to be chained, the one with the longest way first. A way is what is left of a launch, up to
 /// where another goes on from it, and then of that one, and so on: no number of workers chains it in less time. So launches that
 /// others wait for are chained early.
 #[derive(Drop)]
 pub(crate) struct ChainOrder {
     /// Each launch of the run.
-    launches: Vec<Candidate>,
+    launches: Vec<Ranked>,
     /// The launches that go on from others, by the prefix that each goes on from.
     followers: Vec<Follower>,
-    /// Those that may be chained and were not taken from here.
-    offered: BinaryHeap<Candidate>,
+    /// Those by each algorithm that may be chained and were not taken from here.
+    offered_sha256: BinaryHeap<Candidate>,
+    offered_sha512: BinaryHeap<Candidate>,
 }
 
 impl ChainOrder {
@@ -50,13 +59,22 @@ impl ChainOrder {
         prefixes: &SharedPrefixes,
     ) -> Result<ChainOrder, NoMemory> {
         let followers = followers_of(alloc, plans.len(), prefixes)?;
-        let launches = candidates_of(alloc, plans, prefixes)?;
+        let launches = ranked_launches(alloc, plans, prefixes)?;
+        let sha512 = plans
+            .iter()
+            .filter(|plan| plan.algo() == Algo::Sha512)
+            .count();
         // Each launch is offered when it is ready, and again when the prefix that it goes on from is chained.
-        let offered = BinaryHeap::with_capacity(alloc, 2 * plans.len())?;
+        let offered_sha512 = BinaryHeap::with_capacity(alloc, 2 * sha512)?;
+        let offered_sha256 = BinaryHeap::with_capacity(
+            alloc,
+            2 * plans.len().saturating_sub(sha512),
+        )?;
         Ok(ChainOrder {
             launches,
             followers,
-            offered,
+            offered_sha256,
+            offered_sha512,
         })
     }
 
@@ -70,14 +88,21 @@ impl ChainOrder {
 
     /// Offers a launch, where room was reserved for it.
     fn offer(&mut self, number: usize) {
-        let (Some(candidate), true) = (self.launches.get(number).copied(), self.has_room()) else {
+        let Some(Ranked { candidate, algo }) = self.launches.get(number).copied() else {
             return;
         };
-        let _ = self.offered.push(candidate);
+        let offered = self.offered_by(algo);
+        if offered.len() < offered.capacity() {
+            let _ = offered.push(candidate);
+        }
     }
 
-    fn has_room(&self) -> bool {
-        self.offered.len() < self.offered.capacity()
+    /// Those by an algorithm that were offered and not taken.
+    fn offered_by(&mut self, algo: Algo) -> &mut BinaryHeap<Candidate> {
+        match algo {
+            Algo::Sha256 => &mut self.offered_sha256,
+            Algo::Sha512 => &mut self.offered_sha512,
+        }
     }
 
     /// Offers the launches that go on from a prefix. Answers how many they are.
@@ -94,24 +119,38 @@ impl ChainOrder {
 
     /// How many launches were offered and not taken.
     pub(crate) fn offered(&self) -> usize {
-        self.offered.len()
+        let sha256 = self.offered_sha256.len();
+        sha256.saturating_add(self.offered_sha512.len())
+    }
+
+    /// How many of them are by an algorithm.
+    pub(crate) fn offered_beside(&self, algo: Algo) -> usize {
+        match algo {
+            Algo::Sha256 => self.offered_sha256.len(),
+            Algo::Sha512 => self.offered_sha512.len(),
+        }
     }
 
     /// Takes the launch that is to be chained next.
     pub(crate) fn next(&mut self) -> Option<usize> {
-        let candidate = self.offered.pop()?;
+        let algo = if self.offered_sha256.peek() < self.offered_sha512.peek() {
+            Algo::Sha512
+        } else {
+            Algo::Sha256
+        };
+        let candidate = self.offered_by(algo).pop()?;
         Some(candidate.number.0)
     }
 
-    /// Takes the launch that is to be chained next, where it is best chained beside one by an algorithm.
-    pub(crate) fn next_last(
+    /// Takes the launch that is to be chained next beside one by an algorithm, where much of it is left.
+    pub(crate) fn next_beside(
         &mut self,
         plans: &[LaunchPlan],
         prefixes: &SharedPrefixes,
         algo: Algo,
     ) -> Option<usize> {
-        let number = self.next()?;
-        if goes_beside(plans, prefixes, number, algo) {
+        let number = self.offered_by(algo).pop()?.number.0;
+        if is_long(plans, prefixes, number) {
             return Some(number);
         }
         self.offer(number);
@@ -119,15 +158,14 @@ impl ChainOrder {
     }
 }
 
-/// Whether a launch is best chained beside one by an algorithm: it is by the same, no other goes on from it, and much of it is
-/// left.
-fn goes_beside(plans: &[LaunchPlan], prefixes: &SharedPrefixes, number: usize, algo: Algo) -> bool {
-    let Some(plan) = plans.get(number) else {
-        return false;
-    };
-    let shared_prefix = prefixes.shared_prefix(number);
-    let links = shared_prefix.map_or(0, |shared_prefix| shared_prefix.links);
-    plan.algo() == algo && prefixes.is_last(number) && plan.is_long_after(links)
+/// Whether so much of a launch is left that it is best chained beside another.
+fn is_long(plans: &[LaunchPlan], prefixes: &SharedPrefixes, number: usize) -> bool {
+    let links = prefixes
+        .shared_prefix(number)
+        .map_or(0, |shared_prefix| shared_prefix.links);
+    plans
+        .get(number)
+        .is_some_and(|plan| plan.is_long_after(links))
 }
 
 /// Of this many launches those that go on from others, by the prefix that each goes on from.
@@ -147,22 +185,25 @@ fn followers_of(
 }
 
 /// Each launch, with its place in the order.
-fn candidates_of(
+fn ranked_launches(
     alloc: Global,
     plans: &[LaunchPlan],
     prefixes: &SharedPrefixes,
-) -> Result<Vec<Candidate>, NoMemory> {
+) -> Result<Vec<Ranked>, NoMemory> {
     let ways = ways_of(alloc, plans, prefixes)?;
-    let mut candidates = Vec::with_capacity(alloc, plans.len())?;
+    let mut launches = Vec::with_capacity(alloc, plans.len())?;
     for number in 0..plans.len() {
         let way = ways.get(number).copied().unwrap_or(0);
-        candidates.push(ranked(prefixes.shared_prefix(number), number, way))?;
+        launches.push(Ranked {
+            candidate: placed(prefixes.shared_prefix(number), number, way),
+            algo: plans[number].algo(),
+        })?;
     }
-    Ok(candidates)
+    Ok(launches)
 }
 
 /// The place of a launch in the order, which may go on from another. Its longest way has this many parts.
-fn ranked(shared_prefix: Option<SharedPrefix>, number: usize, way: u64) -> Candidate {
+fn placed(shared_prefix: Option<SharedPrefix>, number: usize, way: u64) -> Candidate {
     let (first, parts) = match shared_prefix {
         Some(shared_prefix) => (shared_prefix.launch, way - way % STEP),
         None => (number, way),

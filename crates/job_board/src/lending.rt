@@ -14,8 +14,8 @@ use rim_chain::{LaunchPlan, SharedPrefixes};
 use rim_desc::{Algo, Lanes, MOST_LANES};
 use std::alloc::Global;
 
-/// The fewest launches that are quick side by side.
-const FEWEST: usize = 4;
+/// The fewest launches that are quicker side by side than one after another.
+const FEWEST: usize = 3;
 
 /// For each worker, the launches lent to it, which are best given to it; and rows for lent launches. What is said
 /// here is preferred, and no more: the board gives a launch that was lent to another worker where no other is left.
@@ -24,12 +24,12 @@ pub(crate) struct Lending {
     lent: Vec<[Option<usize>; MOST_LANES - 1]>,
     rows: Vec<DigestRow>,
     lanes: Lanes,
-    /// How many launches a worker has rows for; none where no launches are lent.
+    /// How many launches a worker is lent at most.
     others: usize,
 }
 
 impl Lending {
-    /// No launch was lent to any of this many workers. These are the rows for lent launches, `others` for each worker.
+    /// No launch was lent to any of this many workers, each of which is lent `others` at most. These are the rows for lent launches.
     pub(crate) fn new(
         alloc: Global,
         workers: usize,
@@ -51,17 +51,25 @@ impl Lending {
         self.rows.pop()
     }
 
-    /// How many launches a worker is best lent beside one by an algorithm, where this many may be chained.
-    pub(crate) fn count(&self, algo: Algo, offered: usize) -> usize
+    /// How many launches a worker is best lent beside one by an algorithm that it was given, where this many are offered, and this
+    /// many of them are by that algorithm.
+    pub(crate) fn count(&self, algo: Algo, offered: usize, offered_beside: usize) -> usize
         ensures { result < MOST_LANES }
     {
-        others_for(self.lanes.count(algo), offered, self.lent.len()).min(self.others)
+        if offered_beside.saturating_add(1) < FEWEST {
+            return 0;
+        }
+        let most = self.lanes.count(algo);
+        others_for(most, offered.saturating_add(1), self.lent.len()).min(self.others)
     }
 
-    /// Whether none of this many launches that may be chained is to be given before each worker has a whole group.
-    pub(crate) fn holds_back(&self, offered: usize) -> bool {
-        let groups = offered.checked_div(self.others.saturating_add(1));
-        self.others > 0 && groups.unwrap_or(0) < self.lent.len()
+    /// Whether launches are best given when more of them are ready: this many are offered, and of this many the pages are not
+    /// hashed.
+    pub(crate) fn waits_for_more(&self, offered: usize, more: usize) -> bool {
+        self.others > 0
+            && more > 0
+            && offered <= self.others
+            && offered.saturating_add(more) > self.lent.len()
     }
 
     /// Notes that a worker was lent a launch.
@@ -92,7 +100,7 @@ impl Lending {
     }
 }
 
-/// For how many launches beside one each worker needs rows, in a run of these.
+/// How many launches a worker is lent at most, in a run of these.
 pub(crate) fn most_others(plans: &[LaunchPlan], workers: usize, lanes: Lanes) -> usize
     ensures { result < MOST_LANES }
 {
@@ -110,22 +118,17 @@ fn widest(plans: &[LaunchPlan], lanes: Lanes) -> usize
     widest
 }
 
-/// How many launches a worker is best lent beside one, where `most` at most are chained side by side: as many as fill a group,
-/// where each worker is left a group of as many; else three, where each is left a group of four; else none.
-fn others_for(most: usize, offered: usize, workers: usize) -> usize
+/// How many launches a worker is best lent beside one, where `most` at most are chained side by side, and this many could be given. A
+/// group takes less than twice what one of them takes alone, filled or not. So where there are more launches than workers it is
+/// done before these would be, one after another, and is the least work. Else each worker has one, which is done sooner alone.
+fn others_for(most: usize, launches: usize, workers: usize) -> usize
     requires { most ≤ MOST_LANES }
     ensures { result < MOST_LANES }
 {
-    if most < FEWEST {
-        return 0;
-    }
-    if offered / most >= workers {
-        return most - 1;
-    }
-    if offered / FEWEST >= workers {
-        FEWEST - 1
-    } else {
+    if most < FEWEST || launches <= workers {
         0
+    } else {
+        most - 1
     }
 }
 

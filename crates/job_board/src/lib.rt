@@ -18,6 +18,7 @@ pub use job_core::{
 };
 pub use job_tasks::{
     ChainedLaunch, HashedPage, KeptPrefix, LaunchTask, OwnPrefix, OwnValue, PageTask, Run, Work,
+    begin_each, most_stops, put_values, run_to_stop, set_stop,
 };
 pub use share::Share;
 pub use state::BoardState;

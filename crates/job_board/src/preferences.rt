@@ -59,7 +59,11 @@ impl Preferences {
     pub(crate) fn lend_count(&self, algo: Algo) -> usize
         ensures { result < MOST_LANES }
     {
-        self.lending.count(algo, self.chain_order.offered())
+        self.lending.count(
+            algo,
+            self.chain_order.offered(),
+            self.chain_order.offered_beside(algo),
+        )
     }
 
     /// The launch by an algorithm that is to be lent to a worker next. That it was lent is noted.
@@ -73,7 +77,7 @@ impl Preferences {
     ) -> Option<usize>
         ensures { IfSome result (IsOpen core.now) }
     {
-        let number = self.chain_order.next_last(plans, prefixes, algo)?;
+        let number = self.chain_order.next_beside(plans, prefixes, algo)?;
         if !core.is_open(number) {
             return None;
         }
@@ -84,8 +88,8 @@ impl Preferences {
 
 impl Preferences {
     /// A free launch that is ready and is to be chained before more pages are hashed, if one is known. A worker within a
-    /// group of pages puts these first, since launches wait for what it has hashed. Where launches are lent, they wait for more
-    /// of them as long as pages are left.
+    /// group of pages puts these first, since launches wait for what it has hashed. Where launches are lent, they wait until a group
+    /// is filled, as long as pages are left.
     pub(crate) fn next_launch(
         &mut self,
         core: &mut Core,
@@ -102,10 +106,17 @@ impl Preferences {
             return Some(number);
         }
         self.note_ready_launches(core, prefixes);
-        if self.lending.holds_back(self.chain_order.offered()) && core.free_page().is_some() {
+        if self.waits_for_more(core) && core.free_page().is_some() {
             return None;
         }
         self.next_open_launch(core)
+    }
+
+    /// Whether launches are best given when more of them are ready.
+    fn waits_for_more(&self, core: &Core) -> bool {
+        let more = core.launches().saturating_sub(self.noted);
+        self.lending
+            .waits_for_more(self.chain_order.offered(), more)
     }
 
     /// Whether a worker is within a group of pages, the next of which is free.

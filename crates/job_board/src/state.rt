@@ -403,7 +403,8 @@ fn new_choices(
 {
     let prefixes = SharedPrefixes::new(alloc, plans)?;
     let others = most_others(plans, workers, lanes);
-    let rows = lent_rows(alloc, room, others, workers)?;
+    // No more launches are lent at a time than there are.
+    let rows = lent_rows(alloc, room, (others * workers).min(plans.len()))?;
     let lending = Lending::new(alloc, workers, lanes, others, rows)?;
     let preferences = Preferences::new(alloc, workers, plans, &prefixes, lanes, lending)?;
     Ok((prefixes, preferences))

@@ -1,2 +1,3 @@
 pub mod Tasks
+pub mod Beside
 pub mod inside

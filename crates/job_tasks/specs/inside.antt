@@ -1,3 +1,2 @@
 -- What the fields of this crate keep.
 pub mod Rows
-pub mod Beside

@@ -7,14 +7,11 @@ ghost use Rattle.std.specs.Prelude.{◌≡◌, ◌<◌, ◌≤◌, ℕ, [], leng
 ghost use Rattle.launch_plan.specs.Links.{PlanView, keys_of};
 ghost use Rattle.launch_plan.specs.Rows.{HaveFirstPages, IsRowOf, has_all};
 ghost use Rattle.job_tasks.specs.Tasks.{IsOwnRow, IsRoomy};
-ghost use Rattle.rim_desc.specs.declared.side_by_side.TheConstants.{MOST_LANES};
-ghost use Rattle.job_core.specs.declared.machine.TheConstants.{WORKER_LIMIT};
 
 use crate::run::Run;
 use page_jobs::{DigestRow, Table};
 use refusal::NoMemory;
 use rim_chain::LaunchPlan;
-use rim_desc::MOST_LANES;
 use std::alloc::Global;
 use std::marker::{Model, PhantomData};
 
@@ -115,17 +112,8 @@ pub fn worker_rows<'a, L: Run>(
     Ok(rows)
 }
 
-/// Empty rows for the launches that workers are lent, this many for each worker.
-pub fn lent_rows(
-    alloc: Global,
-    room: usize,
-    others: usize,
-    workers: usize,
-) -> Result<Vec<DigestRow>, NoMemory>
-    requires workers { workers ≤ WORKER_LIMIT }
-    requires others { others < MOST_LANES }
-{
-    let count = others * workers;
+/// Empty rows for launches that workers are lent, this many.
+pub fn lent_rows(alloc: Global, room: usize, count: usize) -> Result<Vec<DigestRow>, NoMemory> {
     let mut rows = Vec::with_capacity(alloc, count)?;
     for _i in 0..count {
         rows.push(DigestRow::reserve(alloc, room)?)?;

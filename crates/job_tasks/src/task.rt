@@ -1,18 +1,16 @@
 //! The jobs that a board gives, and what comes of them. Their types say that they are of its own run: so nothing is compared
 //! when they are put.
 ghost use Rattle.std.specs.Prelude.{◌≡◌, ◌<◌, ◌≤◌, ◌+◌, ◌↔◌, [], length, map, slice_get, slice_index_or, option_map, IfSome, IsSome, Some};
-ghost use Rattle.rim_desc.specs.declared.side_by_side.TheConstants.{MOST_LANES};
 ghost use Rattle.page_jobs.specs.Page.{digest_of, page_view};
-ghost use Rattle.rim_chain.specs.Chains.{chains_to};
+ghost use Rattle.rim_chain.specs.Chains.{IsUnderWay};
 ghost use Rattle.launch_plan.specs.Links.{chain_of};
 ghost use Rattle.rim_chain.specs.SharedPrefixes.{IsOwnPrefix};
 ghost use Rattle.job_tasks.specs.Tasks.{IsOwnLaunch, whole_table};
-ghost use Rattle.job_tasks.specs.inside.Beside.{AreOwnRims, IsOwnRim};
 
 use crate::run::Run;
 use page_jobs::{DigestRow, Hashed, Page, PageJob};
-use rim_chain::{LaunchChain, LaunchJob, LaunchRim, Prefix, no_chains, side_by_side};
-use rim_desc::{Algo, MOST_LANES, Measurement};
+use rim_chain::{LaunchChain, LaunchJob, LaunchRim, Prefix};
+use rim_desc::{Algo, Measurement};
 use std::marker::{Model, PhantomData};
 
 /// A page of a run that is to be hashed.
@@ -248,27 +246,6 @@ impl<'a, L: Run> LaunchTask<'a, L> {
         self.job.number()
     }
 
-    /// Chains the launch up to where others first go on from it, and answers the prefix there. `None` where none does, or where it
-    /// was chained so far already. It takes no memory.
-    pub fn run_to_stop(&mut self) -> Option<OwnPrefix<L>>
-        ensures same { self.new ≡ self.old }
-        ensures number { IfSome result (λ number. number ≡ self.old.number) }
-    {
-        let prefix = self.job.run_to_stop()?;
-        Some(OwnPrefix {
-            number: self.job.number(),
-            prefix,
-            run: PhantomData,
-        })
-    }
-
-    /// Notes after how many links others go on from the launch next (`KeptPrefix::next_stop`).
-    pub fn set_stop(&mut self, stop: Option<usize>)
-        ensures { self.new ≡ self.old }
-    {
-        self.job.set_stop(stop);
-    }
-
     /// How many links the launch has, and so how often others can go on from it at most. No value depends on it.
     pub fn link_count(&self) -> usize {
         self.job.link_count()
@@ -292,32 +269,44 @@ impl<'a, L: Run> LaunchTask<'a, L> {
         self.job.algo()
     }
 
-    /// Whether the launch is best chained side by side with others.
-    pub fn can_run_with_others(&self) -> bool {
-        self.job.can_run_with_others()
+    /// Whether so much of the launch is left that it is best chained side by side with others.
+    pub fn is_long(&self) -> bool {
+        self.job.is_long()
     }
 
-    /// Chains the launch, and others side by side with it. The measurements of the others are written, each in the place of its
-    /// own launch. It takes no memory. This is quick where they are four by one algorithm, or eight by SHA-256.
-    pub fn run_with(
-        self,
-        others: &[Option<LaunchTask<'a, L>>],
-        values: &mut [Option<OwnValue<L>>],
-    ) -> ChainedLaunch<'a, L>
-        requires few { length others.now < MOST_LANES }
-        requires room { length values.old ≡ length others.now }
-        ensures job { result.job ≡ self.entry }
-        ensures values { values.new ≡ map (option_map (λ t. t.number)) others.now }
+    /// Its chain, up to where others go on from it first.
+    pub(crate) fn chain(&self) -> LaunchChain<'_>
+        ensures { IsUnderWay self.now result }
     {
-        let count = others.len();
-        let mut rims = [Measurement { bytes: [0; 64] }; MOST_LANES];
-        let rims = &mut rims[..=count];
-        chain_beside(&self, &*others, rims);
-        put_values(others, rims, values);
-        ChainedLaunch {
-            rim: self.job.known(rims[count]),
+        self.job.chain()
+    }
+
+    /// The chain that goes on from where another one of the launch ends, up to where others go on from it next, if any do.
+    pub(crate) fn chain_after(&self, chain: &LaunchChain, stop: Option<usize>) -> LaunchChain<'_>
+        requires { IsUnderWay self.now chain.now }
+        ensures { IsUnderWay self.now result }
+    {
+        self.job.chain_after(chain, stop)
+    }
+
+    /// The prefix of the launch where a chain of it ends.
+    pub(crate) fn prefix_after(&self, chain: &LaunchChain) -> OwnPrefix<L>
+        requires { IsUnderWay self.now chain.now }
+        ensures { result ≡ self.now.number }
+    {
+        OwnPrefix {
+            number: self.job.number(),
+            prefix: self.job.prefix_after(chain),
             run: PhantomData,
         }
+    }
+
+    /// The launch's measurement, of which a chain is under way.
+    pub(crate) fn value_after(&self, chain: &LaunchChain) -> OwnValue<L>
+        requires { IsUnderWay self.now chain.now }
+        ensures { result ≡ self.now.number }
+    {
+        self.own_value(self.job.value_after(chain))
     }
 
     /// Its measurement, which was found.
@@ -346,62 +335,6 @@ impl<'a, L: Run> LaunchTask<'a, L> {
     /// The row, to be filled for another launch.
     pub fn into_row(self) -> DigestRow {
         self.job.into_row()
-    }
-}
-
-/// Writes what launches are measured to, which are chained side by side: each in its own place, and that of the first one after
-/// those of all others. Where there is none in a place, nothing is said of the measurement.
-fn chain_beside<'b, 'a, L: Run>(
-    first: &'b LaunchTask<'a, L>,
-    others: &'b [Option<LaunchTask<'a, L>>],
-    rims: &mut [Measurement],
-)
-    requires few { length others.now < MOST_LANES }
-    requires room { length rims.old ≡ length others.now + 1 }
-    ensures size { length rims.new ≡ length rims.old }
-    ensures others { AreOwnRims others.now (map (λ m. m.bytes) rims.new) }
-    ensures first { IsOwnRim first.now
-        (slice_index_or (map (λ m. m.bytes) rims.new) (length others.now) []) }
-{
-    let mut chains = no_chains();
-    let chains = &mut chains[..=others.len()];
-    begin_each(others, chains);
-    chains[others.len()] = first.job.chain();
-    side_by_side(chains, rims);
-}
-
-/// Writes the chains of launches, each in its own place.
-fn begin_each<'b, 'a, L: Run>(
-    tasks: &'b [Option<LaunchTask<'a, L>>],
-    chains: &mut [LaunchChain<'b>],
-)
-    requires { length tasks.now ≤ length chains.old }
-    ensures size { length chains.new ≡ length chains.old }
-    ensures own { AreOwnRims tasks.now (map chains_to chains.new) }
-{
-    for i in 0..tasks.len() {
-        if let Some(task) = &tasks[i] {
-            chains[i] = task.job.chain();
-        }
-    }
-}
-
-/// Writes the measurements of launches, each in its own place.
-fn put_values<'a, L: Run>(
-    tasks: &[Option<LaunchTask<'a, L>>],
-    rims: &[Measurement],
-    values: &mut [Option<OwnValue<L>>],
-)
-    requires own { AreOwnRims tasks.now (map (λ m. m.bytes) rims.now) }
-    requires rims { length tasks.now ≤ length rims.now }
-    requires room { length values.old ≡ length tasks.now }
-    ensures { values.new ≡ map (option_map (λ t. t.number)) tasks.now }
-{
-    for i in 0..tasks.len() {
-        values[i] = match &tasks[i] {
-            Some(task) => Some(task.own_value(rims[i])),
-            None => None,
-        };
     }
 }
 

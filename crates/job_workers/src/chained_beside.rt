@@ -1,12 +1,16 @@
 //! Launches that a worker chains before they are given to it.
-ghost use Rattle.std.specs.Prelude.{◌≡◌, ◌<◌, ◌≤◌, IfSome};
+ghost use Rattle.std.specs.Prelude.{◌≡◌, ◌<◌, ◌≤◌, length, map, option_map, IfSome};
 ghost use Rattle.rim_desc.specs.declared.side_by_side.TheConstants.{MOST_LANES};
 ghost use Rattle.job_workers.specs.declared.chained_beside.TheConstants.{MOST_OTHERS};
 
 use crate::board::Board;
-use job_board::{ChainedLaunch, LaunchTask, OwnValue, Run};
+use job_board::{
+    ChainedLaunch, LaunchTask, OwnValue, Run, begin_each, most_stops, put_values, run_to_stop,
+    set_stop,
+};
 use page_jobs::DigestRow;
-use rim_desc::MOST_LANES;
+use rim_chain::no_chains;
+use rim_desc::{Algo, MOST_LANES};
 use std::sync::Wait;
 
 /// The most launches that are chained beside one.
@@ -20,7 +24,7 @@ const MOST_OTHERS: usize = MOST_LANES - 1;
 #[derive(Drop)]
 pub(crate) struct ChainedBeside<L: Run> {
     rows: [Option<DigestRow>; MOST_OTHERS],
-    values: [Option<OwnValue<L>>; MOST_OTHERS],
+    values: [Option<OwnValue<L>>; MOST_LANES],
 }
 
 impl<L: Run> ChainedBeside<L> {
@@ -28,7 +32,7 @@ impl<L: Run> ChainedBeside<L> {
     pub(crate) fn new() -> ChainedBeside<L> {
         ChainedBeside {
             rows: [None, None, None, None, None, None, None],
-            values: [None, None, None, None, None, None, None],
+            values: [None, None, None, None, None, None, None, None],
         }
     }
 
@@ -45,55 +49,50 @@ impl<L: Run> ChainedBeside<L> {
         if let Some(value) = taken(&mut self.values, task.number()) {
             return task.known(value);
         }
-        if !task.can_run_with_others() {
-            return run_and_keep(rt, board, task);
-        }
-        self.run_with_lent(rt, board, worker, task)
+        let mut tasks = [None, None, None, None, None, None, None, None];
+        let tasks = &mut tasks[..];
+        let algo = task.algo();
+        let count = self.lend(rt, board, worker, &task, tasks);
+        tasks[0] = Some(task);
+        chain_each(rt, board, algo, &tasks[..count], &mut self.values[..count]);
+        let (Some(task), Some(value)) = (tasks[0].take(), self.values[0].take()) else {
+            unreachable!()
+        };
+        self.keep_rows(tasks);
+        task.known(value)
     }
 
-    /// Chains a launch, and others with it that the board lends.
-    fn run_with_lent<'a>(
-        &mut self,
-        rt: &impl Wait,
-        board: &Board<'a, L>,
-        worker: usize,
-        task: LaunchTask<'a, L>,
-    ) -> ChainedLaunch<'a, L>
-        ensures { result.job ≡ task.entry }
-    {
-        let mut others = [None, None, None, None, None, None, None];
-        let count = self.lend(rt, board, worker, &task, &mut others);
-        let chained = task.run_with(&others[..count], &mut self.values[..count]);
-        self.keep_rows(&mut others);
-        chained
-    }
-
-    /// Puts launches that the board lends in these places, from the first on, in the rows for them. Answers how many of them
-    /// are best chained beside the launch.
+    /// Puts launches that the board lends in these places, after the one for the launch itself, in the rows for them. Answers in how
+    /// many lanes all these are best chained: as many as are quick side by side, also where fewer launches were lent.
     fn lend<'a>(
         &mut self,
         rt: &impl Wait,
         board: &Board<'a, L>,
         worker: usize,
         task: &LaunchTask<'a, L>,
-        others: &mut [Option<LaunchTask<'a, L>>; MOST_OTHERS],
+        tasks: &mut [Option<LaunchTask<'a, L>>],
     ) -> usize
-        ensures { result < MOST_LANES }
+        requires { length tasks.old ≡ MOST_LANES }
+        ensures size { length tasks.new ≡ length tasks.old }
+        ensures count { (0 < result) × (result ≤ MOST_LANES) }
     {
+        if !task.is_long() {
+            return 1;
+        }
         let count = board.lend_count(rt, task.algo());
         for i in 0..count {
             let Some(row) = self.row(rt, board, i) else {
-                return whole_group(i);
+                break;
             };
             match board.lend(rt, worker, task.algo(), row) {
-                Ok(other) => others[i] = Some(other),
+                Ok(other) => tasks[i + 1] = Some(other),
                 Err(row) => {
                     self.rows[i] = Some(row);
-                    return whole_group(i);
+                    break;
                 }
             }
         }
-        count
+        count + 1
     }
 
     /// A row for the launch in a place, which the board lends where none is kept.
@@ -106,39 +105,41 @@ impl<L: Run> ChainedBeside<L> {
         }
     }
 
-    /// Keeps the rows of launches that were lent, for others.
-    fn keep_rows<'a>(&mut self, others: &mut [Option<LaunchTask<'a, L>>; MOST_OTHERS]) {
+    /// Keeps the rows of launches that were lent, for others. The first place is the given launch's.
+    fn keep_rows<'a>(&mut self, tasks: &mut [Option<LaunchTask<'a, L>>])
+        requires { length tasks.old ≡ MOST_LANES }
+    {
         for i in 0..MOST_OTHERS {
-            if let Some(other) = others[i].take() {
+            if let Some(other) = tasks[i + 1].take() {
                 self.rows[i] = Some(other.into_row());
             }
         }
     }
 }
 
-/// Chains a launch, and lets the board keep each prefix that others go on from when the chain comes to it.
-fn run_and_keep<'a, L: Run>(
+/// Chains launches side by side, writes their measurements, each in its own place, and lets the board keep each prefix that others
+/// go on from when a chain comes to it.
+fn chain_each<'a, L: Run>(
     rt: &impl Wait,
     board: &Board<'a, L>,
-    task: LaunchTask<'a, L>,
-) -> ChainedLaunch<'a, L>
-    ensures { result.job ≡ task.entry }
+    algo: Algo,
+    tasks: &[Option<LaunchTask<'a, L>>],
+    values: &mut [Option<OwnValue<L>>],
+)
+    requires few { length tasks.now ≤ MOST_LANES }
+    requires room { length values.old ≡ length tasks.now }
+    ensures { values.new ≡ map (option_map (λ t. t.number)) tasks.now }
 {
-    let mut task = task;
-    'stops: for _ in 0..task.link_count() {
-        let Some(prefix) = task.run_to_stop() else {
+    let mut chains = no_chains(algo);
+    let chains = &mut chains[..tasks.len()];
+    begin_each(tasks, chains);
+    'stops: for _ in 0..most_stops(tasks) {
+        let Some((place, prefix)) = run_to_stop(tasks, chains) else {
             break;
         };
-        task.set_stop(board.keep_prefix(rt, prefix));
+        set_stop(tasks, chains, place, board.keep_prefix(rt, prefix));
     }
-    task.run()
-}
-
-/// How many of fewer launches than are best lent are chained beside one: three, or none.
-fn whole_group(lent: usize) -> usize
-    ensures { result ≤ lent }
-{
-    if lent < 3 { 0 } else { 3 }
+    put_values(tasks, chains, values);
 }
 
 /// Takes the measurement of the launch of this number, if it is in one of these places.

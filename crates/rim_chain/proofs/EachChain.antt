@@ -3,8 +3,7 @@ use Rattle.std.proofs.Common.{◌≡◌, ℕ, ◌+◌, ◌<◌, inl, inr, List, 
 use Rattle.std.proofs.lemmas.List.{get_or-map, get_or-set_other, get_or-set_same, length-map, same_lists}
 use Rattle.std.proofs.lemmas.Bool.{cases_eq}
 use Rattle.rim_desc.specs.declared.measurement.Algo.TheVariants.{Sha256}
-use Rattle.rim_chain.specs.Chains.{ChainView, chains_to}
-use Rattle.rim_chain.specs.inside.UnderWay.{HaveGoneOn}
+use Rattle.rim_chain.specs.Chains.{ChainView, HaveGoneOn, chains_to}
 
 -- what holds of each of the first elements, where one more is written
 pub first-more : {X : Type 0} (P : ℕ → X → X → Type 0) (ys : List X) (i : ℕ) (y : X) → i < length ys
@@ -29,5 +28,5 @@ same-ends xs ys gone = same_lists (map chains_to ys) (map chains_to xs) (length-
     each : (k : ℕ) (d : List ℕ) → k < length (map chains_to ys) → slice_index_or (map chains_to ys) k d ≡ slice_index_or (map chains_to xs) k d
     each k d inside =
         let there : k < length xs = omega (arith, inside, length-map ys chains_to, gone.size) in
-        let c : ChainView = record { algo = Sha256; value = []; left = [] } in
-        get_or-map chains_to ys k c d (omega (arith, there, gone.size)) ∙ (gone.each k c there).1 ∙ sym (get_or-map chains_to xs k c d there)
+        let c : ChainView = record { algo = Sha256; value = []; left = []; end = 0 } in
+        get_or-map chains_to ys k c d (omega (arith, there, gone.size)) ∙ (gone.each k c there).2 ∙ sym (get_or-map chains_to xs k c d there)

@@ -3,10 +3,10 @@ ghost use Rattle.std.specs.Prelude.{◌≡◌, IfSome};
 ghost use Rattle.launch_plan.specs.Prefixes.{IsPrefix};
 ghost use Rattle.launch_plan.specs.Links.{chain_of};
 ghost use Rattle.launch_plan.specs.Rows.{IsFilled};
-ghost use Rattle.rim_chain.specs.Chains.{chains_to};
+ghost use Rattle.rim_chain.specs.Chains.{IsUnderWay};
 ghost use Rattle.rim_chain.specs.inside.Places.{IsPlace};
 
-use crate::chaining::{Place, chain_on, next_place, place_of};
+use crate::chaining::{Place, chain_on, place_of};
 use crate::under_way::LaunchChain;
 use launch_plan::{LaunchPlan, Prefix};
 use page_jobs::DigestRow;
@@ -109,25 +109,6 @@ impl<'a> LaunchJob<'a> {
         self.plan.algo()
     }
 
-    /// Chains the launch up to where it is to stop, and answers the prefix there. `None` where no stop is left, or none that the
-    /// launch comes to. It takes no memory.
-    pub fn run_to_stop(&mut self) -> Option<Prefix>
-        ensures same { self.new ≡ self.old }
-        ensures prefix { IfSome result (IsPrefix self.old.plan self.old.row.digests) }
-    {
-        let stop = self.stop.take();
-        let next = next_place(self.plan, &self.row, self.here(), stop)?;
-        self.place = Some(next);
-        Some(next.prefix())
-    }
-
-    /// Lets the launch stop after this many links.
-    pub fn set_stop(&mut self, stop: Option<usize>)
-        ensures { self.new ≡ self.old }
-    {
-        self.stop = stop;
-    }
-
     /// How many links it has, and so how often it can stop at most. No value depends on it.
     pub fn link_count(&self) -> usize {
         self.plan.links().len()
@@ -159,17 +140,66 @@ impl<'a> LaunchJob<'a> {
 }
 
 impl<'a> LaunchJob<'a> {
-    /// Whether the launch is best chained side by side with others: it does not stop, and much of it is left.
-    pub fn can_run_with_others(&self) -> bool {
+    /// Whether so much of the launch is left that it is best chained side by side with others.
+    pub fn is_long(&self) -> bool {
         let links = self.place.map_or(0, |place| place.links);
-        self.stop.is_none() && self.plan.is_long_after(links)
+        self.plan.is_long_after(links)
     }
 
-    /// The chain of the launch, as far as nothing of it is done.
+    /// The chain of the launch, as far as nothing of it is done, up to where it is to stop.
     pub fn chain(&self) -> LaunchChain<'_>
-        ensures { chains_to result ≡ chain_of self.now.plan self.now.row.digests }
+        ensures { IsUnderWay self.now result }
     {
-        LaunchChain::new(self.plan, &self.row, self.here(), self.plan.links().len())
+        self.chain_between(self.here(), self.stop)
+    }
+
+    /// The chain that goes on from where another one of the launch ends, up to where others go on from it next, if any do.
+    pub fn chain_after(&self, chain: &LaunchChain, stop: Option<usize>) -> LaunchChain<'_>
+        requires { IsUnderWay self.now chain.now }
+        ensures { IsUnderWay self.now result }
+    {
+        self.chain_between(self.place_after(chain), stop)
+    }
+
+    /// The chain from a place on up to a stop, where the launch comes to one, or to its end.
+    fn chain_between(&self, from: Place, stop: Option<usize>) -> LaunchChain<'_>
+        requires { IsPlace self.now.plan self.now.row.digests from }
+        ensures { IsUnderWay self.now result }
+    {
+        let links = self.plan.links().len();
+        match stop {
+            Some(stop) if from.links <= stop && stop <= links => {
+                LaunchChain::new(self.plan, &self.row, from, stop, true)
+            }
+            _ => LaunchChain::new(self.plan, &self.row, from, links, false),
+        }
+    }
+
+    /// The prefix of the launch where a chain of it ends.
+    pub fn prefix_after(&self, chain: &LaunchChain) -> Prefix
+        requires { IsUnderWay self.now chain.now }
+        ensures { IsPrefix self.now.plan self.now.row.digests result }
+    {
+        Prefix {
+            links: chain.end(),
+            value: chain.finished(),
+        }
+    }
+
+    /// The place where a chain of the launch ends.
+    fn place_after(&self, chain: &LaunchChain) -> Place
+        requires { IsUnderWay self.now chain.now }
+        ensures { IsPlace self.now.plan self.now.row.digests result }
+    {
+        place_of(self.plan, &self.row, Some(self.prefix_after(chain)))
+    }
+
+    /// The launch's measurement, of which a chain is under way.
+    pub fn value_after(&self, chain: &LaunchChain) -> Measurement
+        requires { IsUnderWay self.now chain.now }
+        ensures { result.bytes ≡ chain_of self.now.plan self.now.row.digests }
+    {
+        chain_on(self.plan, &self.row, self.place_after(chain))
     }
 
     /// The launch with its measurement, which is known.

@@ -155,7 +155,7 @@ fn put_group(
     ensures { HaveOwnPrefixes table.now plans.now prefixes.old.items
         → HaveOwnPrefixes table.now plans.now prefixes.new.items }
 {
-    let mut chains = no_chains();
+    let mut chains = no_chains(Algo::Sha256);
     let chains = &mut chains[..starts.len()];
     if !begin_each(table, plans, shared, starts, rows, chains) {
         return;
@@ -223,7 +223,7 @@ fn begun<'r>(
     if from.links > start.links {
         return None;
     }
-    Some(LaunchChain::new(plan, row, from, start.links))
+    Some(LaunchChain::new(plan, row, from, start.links, false))
 }
 
 /// The plan of a launch, and its digests in a row, where the table has them all and the row has room for them.

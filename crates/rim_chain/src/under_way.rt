@@ -1,5 +1,5 @@
 //! Chains that are under way, part by part, and some of them side by side.
-ghost use Rattle.std.specs.Prelude.{◌≡◌, ◌≤◌, length, map, true, false, IfSome};
+ghost use Rattle.std.specs.Prelude.{◌≡◌, ◌<◌, ◌≤◌, length, map, true, false, IfSome};
 ghost use Rattle.std.specs.List.{All};
 ghost use Rattle.rim_desc.specs.Measurement.{measurement_of};
 ghost use Rattle.rim_desc.specs.Part.{extended_by};
@@ -8,16 +8,16 @@ ghost use Rattle.launch_plan.specs.Fitting.{IsFitting};
 ghost use Rattle.launch_plan.specs.Prefixes.{prefix_value};
 ghost use Rattle.launch_plan.specs.Links.{keys_of, parts_with};
 ghost use Rattle.launch_plan.specs.Rows.{IsFilled};
-ghost use Rattle.rim_chain.specs.Chains.{chains_to};
+ghost use Rattle.rim_chain.specs.Chains.{HaveGoneOn, IsNext, chains_to};
 ghost use Rattle.rim_chain.specs.inside.Places.{IsPlace};
-ghost use Rattle.rim_chain.specs.inside.UnderWay.{AreSet, HaveGoneOn, HaveTaken, set_to};
+ghost use Rattle.rim_chain.specs.inside.UnderWay.{AreSet, HaveTaken, set_to};
 
 use crate::chaining::{Place, extended_by_link};
 use launch_plan::{LaunchPlan, Link, page_count, part_count};
 use page_jobs::DigestRow;
 use rim_desc::{
-    Algo, DESCRIPTOR_SIZE, GRANULE_SIZE, MOST_LANES, Measurement, data_descriptor, extend,
-    extend_each, rec_descriptor, ripas_descriptor,
+    Algo, DESCRIPTOR_SIZE, GRANULE_SIZE, MOST_LANES, Measurement, data_descriptor, extend_each,
+    rec_descriptor, ripas_descriptor,
 };
 use std::marker::Model;
 
@@ -37,6 +37,10 @@ pub struct LaunchChain<'a> {
     digests: &'a [Measurement],
     /// How many parts are left. It is a measure of the work alone.
     parts: u64,
+    /// After how many links of its launch's plan it ends.
+    end: usize,
+    /// Whether other launches go on from where it ends. No value depends on it.
+    is_awaited: bool,
 }
 
 impl<'a> Model for LaunchChain<'a> {
@@ -51,49 +55,55 @@ impl<'a> Model for LaunchChain<'a> {
       algo = c.algo;
       value = c.value.bytes;
       left = parts_with (c.rest ∷ c.links.now) c.digests.now;
+      end = c.end;
     } };
 
     ghost invariant = { λ c. AreLeft (c.rest ∷ c.links.now) c.digests.now };
 }
 
-/// Chains without parts.
-pub fn no_chains<'a>() -> [LaunchChain<'a>; MOST_LANES] {
+/// Chains by an algorithm without parts.
+pub fn no_chains<'a>(algo: Algo) -> [LaunchChain<'a>; MOST_LANES] {
     [
-        LaunchChain::none(),
-        LaunchChain::none(),
-        LaunchChain::none(),
-        LaunchChain::none(),
-        LaunchChain::none(),
-        LaunchChain::none(),
-        LaunchChain::none(),
-        LaunchChain::none(),
+        LaunchChain::none(algo),
+        LaunchChain::none(algo),
+        LaunchChain::none(algo),
+        LaunchChain::none(algo),
+        LaunchChain::none(algo),
+        LaunchChain::none(algo),
+        LaunchChain::none(algo),
+        LaunchChain::none(algo),
     ]
 }
 
 impl<'a> LaunchChain<'a> {
-    /// A chain without parts.
-    fn none() -> LaunchChain<'a> {
+    /// A chain by an algorithm without parts.
+    fn none(algo: Algo) -> LaunchChain<'a> {
         LaunchChain {
-            algo: Algo::Sha256,
+            algo,
             value: Measurement { bytes: [0; 64] },
             rest: NONE_LEFT,
             links: &[],
             digests: &[],
             parts: 0,
+            end: 0,
+            is_awaited: false,
         }
     }
 
-    /// The chain of a plan's first links from a place on, where the plan's pages have the digests of a row.
+    /// The chain of a plan's first links from a place on, where the plan's pages have the digests of a row; others may wait for
+    /// what it comes to.
     pub(crate) fn new(
         plan: &'a LaunchPlan,
         row: &'a DigestRow,
         from: Place,
         end: usize,
+        is_awaited: bool,
     ) -> LaunchChain<'a>
         requires filled { IsFilled plan.now row.now.digests }
         requires from { IsPlace plan.now row.now.digests from }
         requires end { (from.links ≤ end) × (end ≤ length plan.now.links) }
-        ensures { chains_to result ≡ prefix_value end plan.entry.now row.entry.now.digests }
+        ensures value { chains_to result ≡ prefix_value end plan.entry.now row.entry.now.digests }
+        ensures end { result.end ≡ end }
     {
         let before = plan.parts_before(from.links);
         let (first_links, _) = plan.links().split_at(end);
@@ -107,6 +117,8 @@ impl<'a> LaunchChain<'a> {
             links,
             digests,
             parts: plan.parts_before(end).saturating_sub(before),
+            end,
+            is_awaited,
         }
     }
 
@@ -116,6 +128,23 @@ impl<'a> LaunchChain<'a> {
         self.algo
     }
 
+    /// After how many links of its launch's plan it ends.
+    pub fn end(&self) -> usize
+        ensures { result ≡ self.now.end }
+    {
+        self.end
+    }
+
+    /// Whether it has come to where other launches go on. No value depends on it.
+    pub fn has_arrived(&self) -> bool {
+        self.is_awaited && self.parts == 0
+    }
+
+    /// Whether it has still to come to where other launches go on.
+    fn is_awaited(&self) -> bool {
+        self.is_awaited && self.parts > 0
+    }
+
     fn parts(&self) -> u64 {
         self.parts
     }
@@ -123,12 +152,14 @@ impl<'a> LaunchChain<'a> {
     /// Takes the next part from those that are left, and writes its descriptor. False where no part is left.
     fn next(&mut self, descriptor: &mut [u8; DESCRIPTOR_SIZE]) -> bool
         ensures algo { self.new.algo ≡ self.old.algo }
+        ensures end { self.new.end ≡ self.old.end }
         ensures taken { result ≡ true
             → chains_to (set_to self.new (measurement_of self.new.algo descriptor.new))
             ≡ chains_to self.old }
         ensures none { result ≡ false → chains_to self.new ≡ chains_to self.old }
     {
         self.take_link();
+        self.parts = self.parts.saturating_sub(1);
         match self.rest {
             Link::Blocks { base, size, count } if count > 0 => {
                 let top = base + size;
@@ -191,8 +222,19 @@ impl<'a> LaunchChain<'a> {
         self.value = *value;
     }
 
+    /// Takes all parts that are left.
+    fn finish(&mut self)
+        ensures { IsNext self.old self.new }
+    {
+        self.value = self.finished();
+        self.rest = NONE_LEFT;
+        self.links = &[];
+        self.digests = &[];
+        self.parts = 0;
+    }
+
     /// The measurement after all the parts that are left.
-    fn finished(&self) -> Measurement
+    pub fn finished(&self) -> Measurement
         ensures { result.bytes ≡ chains_to self.now }
     {
         let (own, others) = self.digests.split_at(page_count(&self.rest) as usize);
@@ -226,17 +268,37 @@ fn extended_by_links(
     rim
 }
 
-/// Writes what chains come to. Where all have one algorithm their next parts are hashed side by side, as long as each has one;
-/// what is then left of each, one after another. Four are quick, and eight by SHA-256.
+/// Writes what chains come to, which go on side by side as far as that is quicker.
 pub fn side_by_side(chains: &mut [LaunchChain], values: &mut [Measurement])
     requires few { length chains.old ≤ MOST_LANES }
     requires values { length values.old ≡ length chains.old }
     ensures { map (λ m. m.bytes) values.new ≡ map chains_to chains.old }
 {
-    if let Some(algo) = common_algo(chains) {
-        go_on_together(algo, chains, values);
+    'turns: for _ in 0..chains.len() {
+        go_on(chains);
     }
     finish_each(chains, values);
+}
+
+/// Lets chains go on: those by one algorithm side by side, until the first that others wait for has come to its end, or only few have
+/// parts left; or else one of them to its end, first one that others wait for. False where none has parts left. What side by side
+/// is quick are four, or eight by SHA-256: so as many are to be given, if need be some without parts.
+pub fn go_on(chains: &mut [LaunchChain]) -> bool
+    requires few { length chains.old ≤ MOST_LANES }
+    ensures { HaveGoneOn chains.old chains.new }
+{
+    let parts = parts_together(chains);
+    if parts > 0
+        && let Some(algo) = common_algo(chains)
+    {
+        go_on_together(algo, chains, parts);
+        return true;
+    }
+    let Some(next) = next_alone(chains) else {
+        return false;
+    };
+    chains[next].finish();
+    true
 }
 
 /// The algorithm of chains that have one in common.
@@ -252,95 +314,120 @@ fn common_algo(chains: &[LaunchChain]) -> Option<Algo>
     Some(algo)
 }
 
-/// How many parts each of some chains has at least. It is a measure of the work alone.
-fn fewest_parts(chains: &[LaunchChain]) -> u64 {
-    let mut parts = u64::MAX;
-    for i in 0..chains.len() {
-        parts = parts.min(chains[i].parts());
+/// How many chains must have parts left to be quicker side by side than one after another. A group takes less than twice what a
+/// chain alone does; by SHA-256 it is so little less that two gain nothing.
+fn fewest_together(algo: Algo) -> usize
+    ensures { (0 < result) × (result < MOST_LANES) }
+{
+    match algo {
+        Algo::Sha256 => 3,
+        Algo::Sha512 => 2,
     }
-    parts
 }
 
-/// Extends the measurements of chains by one algorithm by their next parts, as long as each has one. The values are written over.
-fn go_on_together(algo: Algo, chains: &mut [LaunchChain], values: &mut [Measurement])
-    requires few { length chains.old ≤ MOST_LANES }
-    requires values { length values.old ≡ length chains.old }
-    requires algo { All (λ c. c.algo ≡ algo) chains.old }
-    ensures chains { HaveGoneOn chains.old chains.new }
-    ensures values { length values.new ≡ length values.old }
+/// How many parts chains are best extended by side by side: none where too few have parts left. It is a measure of the work alone.
+fn parts_together(chains: &[LaunchChain]) -> u64
+    requires { length chains.now ≤ MOST_LANES }
 {
-    let mut descriptors = [[0; DESCRIPTOR_SIZE]; MOST_LANES];
-    let descriptors = &mut descriptors[..chains.len()];
-    'parts: for _ in 0..fewest_parts(chains) {
-        if !extend_next(algo, chains, descriptors, values) {
-            break;
+    let Some(first) = chains.first() else {
+        return 0;
+    };
+    let fewest = fewest_together(first.algo());
+    let mut parts = [0; MOST_LANES];
+    let mut until = u64::MAX;
+    for i in 0..chains.len() {
+        parts[i] = chains[i].parts();
+        if chains[i].is_awaited() {
+            until = until.min(parts[i]);
         }
     }
+    parts.sort_unstable();
+    until.min(parts[MOST_LANES - fewest])
 }
 
-/// Extends each measurement by the next part of its chain. Answers whether each had one.
+/// The chain that is best finished alone, if one has parts left: the first that others wait for, or else the first.
+fn next_alone(chains: &[LaunchChain]) -> Option<usize>
+    ensures { IfSome result (λ next. next < length chains.now) }
+{
+    let mut next = None;
+    for i in 0..chains.len() {
+        if chains[i].is_awaited() {
+            return Some(i);
+        }
+        if chains[i].parts() > 0 && next.is_none() {
+            next = Some(i);
+        }
+    }
+    next
+}
+
+/// Extends the measurements of chains by one algorithm by this many of their next parts each, as far as it has so many.
+fn go_on_together(algo: Algo, chains: &mut [LaunchChain], parts: u64)
+    requires few { length chains.old ≤ MOST_LANES }
+    requires algo { All (λ c. c.algo ≡ algo) chains.old }
+    ensures { HaveGoneOn chains.old chains.new }
+{
+    let mut descriptors = [[0; DESCRIPTOR_SIZE]; MOST_LANES];
+    let mut values = [Measurement { bytes: [0; 64] }; MOST_LANES];
+    let mut taken = [false; MOST_LANES];
+    let descriptors = &mut descriptors[..chains.len()];
+    let values = &mut values[..chains.len()];
+    let taken = &mut taken[..chains.len()];
+    'parts: for _ in 0..parts {
+        extend_next(algo, chains, descriptors, values, taken);
+    }
+}
+
+/// Extends each measurement by the next part of its chain, if it has one.
 fn extend_next(
     algo: Algo,
     chains: &mut [LaunchChain],
     descriptors: &mut [[u8; DESCRIPTOR_SIZE]],
     values: &mut [Measurement],
-) -> bool
+    taken: &mut [bool],
+)
     requires descriptors { length descriptors.old ≡ length chains.old }
     requires values { length values.old ≡ length chains.old }
+    requires taken { length taken.old ≡ length chains.old }
     requires algo { All (λ c. c.algo ≡ algo) chains.old }
     ensures chains { HaveGoneOn chains.old chains.new }
     ensures values { length values.new ≡ length values.old }
     ensures descriptors { length descriptors.new ≡ length descriptors.old }
+    ensures taken { length taken.new ≡ length taken.old }
 {
-    let taken = take_next(chains, descriptors);
-    if taken < chains.len() {
-        extend_first(algo, chains, descriptors, taken);
-        return false;
-    }
+    take_next(chains, descriptors, taken);
     extend_each(algo, descriptors, values);
-    set_each(chains, values);
-    true
+    set_each(chains, values, taken);
 }
 
-/// Takes the next part of each chain and writes its descriptor, up to the first one that has none left. Answers how many were
-/// taken.
-fn take_next(chains: &mut [LaunchChain], descriptors: &mut [[u8; DESCRIPTOR_SIZE]]) -> usize
-    requires { length descriptors.old ≡ length chains.old }
-    ensures within { result ≤ length chains.old }
-    ensures taken { HaveTaken result chains.old chains.new descriptors.new }
-    ensures descriptors { length descriptors.new ≡ length descriptors.old }
-{
-    'each: for i in 0..chains.len() {
-        if !chains[i].next(&mut descriptors[i]) {
-            return i;
-        }
-    }
-    chains.len()
-}
-
-/// Puts the measurements of chains in the places of those before them.
-fn set_each(chains: &mut [LaunchChain], values: &[Measurement])
-    requires { length values.now ≡ length chains.old }
-    ensures { AreSet (length chains.old) chains.old chains.new (map (λ m. m.bytes) values.now) }
-{
-    'each: for i in 0..chains.len() {
-        chains[i].set(&values[i]);
-    }
-}
-
-/// Extends the measurements of the first chains, of which the next part was taken, by its descriptor.
-fn extend_first(
-    algo: Algo,
+/// Takes the next part of each chain that has one, writes its descriptor, and notes that.
+fn take_next(
     chains: &mut [LaunchChain],
-    descriptors: &[[u8; DESCRIPTOR_SIZE]],
-    taken: usize,
+    descriptors: &mut [[u8; DESCRIPTOR_SIZE]],
+    taken: &mut [bool],
 )
-    requires taken { taken ≤ length chains.old }
-    requires descriptors { length descriptors.now ≡ length chains.old }
-    ensures { AreSet taken chains.old chains.new (map (measurement_of algo) descriptors.now) }
+    requires descriptors { length descriptors.old ≡ length chains.old }
+    requires taken { length taken.old ≡ length chains.old }
+    ensures chains { HaveTaken (length chains.old) chains.old chains.new descriptors.new taken.new }
+    ensures descriptors { length descriptors.new ≡ length descriptors.old }
+    ensures taken { length taken.new ≡ length taken.old }
 {
-    'each: for i in 0..taken {
-        chains[i].set(&extend(algo, &descriptors[i]));
+    'each: for i in 0..chains.len() {
+        taken[i] = chains[i].next(&mut descriptors[i]);
+    }
+}
+
+/// Puts the measurements of chains of which the next part was taken in the places of those before them.
+fn set_each(chains: &mut [LaunchChain], values: &[Measurement], taken: &[bool])
+    requires values { length values.now ≡ length chains.old }
+    requires taken { length taken.now ≡ length chains.old }
+    ensures { AreSet (length chains.old) chains.old chains.new (map (λ m. m.bytes) values.now)
+        taken.now }
+{
+    'each: for i in 0..chains.len() {
+        if taken[i] {
+            chains[i].set(&values[i]);
+        }
     }
 }
 

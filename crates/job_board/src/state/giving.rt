@@ -187,8 +187,8 @@ impl<'a, L: Run> BoardState<'a, L> {
         self.preferences.lend_row()
     }
 
-    /// How many launches a worker is best lent beside one by an algorithm, which it has taken; none where too few are left for the
-    /// other workers.
+    /// How many launches a worker is best lent beside one by an algorithm, which it has taken; none where each launch that is ready
+    /// has a worker of its own.
     pub fn lend_count(&self, algo: Algo) -> usize
         ensures { result < MOST_LANES }
     {
@@ -196,8 +196,8 @@ impl<'a, L: Run> BoardState<'a, L> {
     }
 
     /// Lends a worker a launch that is ready, to be chained beside one by the same algorithm that it has taken. It is not taken by
-    /// that, and is best given to this worker later. The row is handed back where no launch is lent: where the next is by
-    /// another algorithm, others go on from it or little of it is left, or where the row has no room for it.
+    /// that, and is best given to this worker later. The row is handed back where no launch is lent: where none by that
+    /// algorithm is offered, little of the next one is left, or the row has no room for it.
     pub fn lend(
         &mut self,
         worker: usize,

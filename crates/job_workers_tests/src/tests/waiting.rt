@@ -1,5 +1,5 @@
 //! Launches that begin alike: a worker waits for the prefix that another hands over.
-ghost use Rattle.std.specs.Prelude.{◌≡◌, ◌≤◌, length, map, replicate, None};
+ghost use Rattle.std.specs.Prelude.{◌≡◌, ◌≤◌, length, map, option_map, replicate, None};
 ghost use Rattle.std.specs.List.{All, Contains};
 ghost use Rattle.page_jobs.specs.Key.{IsRising};
 ghost use Rattle.page_jobs.specs.Page.{page_view};
@@ -7,12 +7,15 @@ ghost use Rattle.page_jobs.specs.Table.{page_keys_of};
 ghost use Rattle.launch_plan.specs.Links.{keys_of as link_keys};
 
 use super::{REALM, check, pages_of, values_by};
-use job_board::{BoardState, LaunchTask, PageTask, Run, Share, Work};
+use job_board::{
+    BoardState, LaunchTask, OwnValue, PageTask, Run, Share, Work, begin_each, put_values,
+    run_to_stop, set_stop,
+};
 use job_board_tests::has_all_keys;
 use job_workers::FreeGate;
 use page_jobs::{DigestRow, Page, PageKey, Table};
 use refusal::NoMemory;
-use rim_chain::{LaunchPlan, Link, chain};
+use rim_chain::{LaunchPlan, Link, chain, no_chains};
 use rim_desc::{Algo, Measurement, Source};
 use std::alloc::Global;
 use std::marker::Brand;
@@ -177,38 +180,50 @@ fn wait_for_first<L: Run>(rt: &impl Abort, board: &mut BoardState<'_, L>) {
     let _second = taken(rt, board, 0, 1);
 }
 
-/// Hands over the prefix of launch 0, which one launch goes on from, and chains no other's.
-fn hand_over<L: Run>(
+/// Chains launch 0, and hands over the prefix that launch 1 goes on from. So that one is given before launch 0 is done.
+fn hand_over<'a, L: Run>(
     rt: &impl Abort,
-    board: &mut BoardState<'_, L>,
-    first: &mut LaunchTask<'_, L>,
-) {
-    let prefix = first.run_to_stop().expect(rt, "launch 1 goes on from it");
+    board: &mut BoardState<'a, L>,
+    tasks: &[Option<LaunchTask<'a, L>>],
+    values: &mut [Option<OwnValue<L>>],
+) -> LaunchTask<'a, L>
+    requires one { length tasks.now ≡ 1 }
+    requires room { length values.old ≡ 1 }
+    ensures { values.new ≡ map (option_map (λ t. t.number)) tasks.now }
+{
+    let mut chains = no_chains(REALM.algo);
+    let chains = &mut chains[..1];
+    begin_each(tasks, chains);
+    let (place, prefix) = run_to_stop(tasks, chains).expect(rt, "launch 1 goes on from it");
+    check(rt, place == 0, "it is in the first place");
     check(rt, prefix.number() == 0, "the prefix is launch 0's");
     let kept = board.keep_prefix(prefix);
     check(rt, kept.followers == 1, "launch 1 goes on from it");
-    first.set_stop(kept.next_stop);
+    set_stop(tasks, chains, place, kept.next_stop);
+    let second = taken(rt, board, 2, 1);
     check(
         rt,
-        first.run_to_stop().is_none(),
+        run_to_stop(tasks, chains).is_none(),
         "no other goes on from it",
     );
+    put_values(tasks, chains, values);
+    second
 }
 
 /// Launch 1 is given when the prefix that it goes on from is kept, while launch 0 is still being chained. Each chains to its own
 /// value.
 fn go_on_from_first<L: Run>(rt: &impl Abort, board: &mut BoardState<'_, L>, own: &[Measurement]) {
-    let mut first = taken(rt, board, 1, 0);
-    check(
-        rt,
-        !first.can_run_with_others(),
-        "it stops where launch 1 goes on",
-    );
+    let first = taken(rt, board, 1, 0);
     waits(rt, board, 2);
-    hand_over(rt, board, &mut first);
-    let second = taken(rt, board, 2, 1);
-    check(rt, second.can_run_with_others(), "it does not stop");
-    let values = [first.run().value(), second.run().value()];
+    let mut tasks = [Some(first)];
+    let tasks = &mut tasks[..];
+    let mut values = [None];
+    let values = &mut values[..];
+    let second = hand_over(rt, board, tasks, values);
+    let (Some(first), Some(value)) = (tasks[0].take(), values[0].take()) else {
+        panic!(rt; "a value for launch 0");
+    };
+    let values = [first.known(value).value(), second.run().value()];
     check(rt, values.as_slice() == own, "the values");
 }
 

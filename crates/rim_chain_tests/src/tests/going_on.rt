@@ -63,8 +63,9 @@ fn check_kept(
 )
     requires { IsFilled plan.now row.digests }
 {
-    let mut job = LaunchJob::new(0, plan, row).going_on(None, Some(3));
-    let prefix = job.run_to_stop().expect(rt, "three links");
+    let job = LaunchJob::new(0, plan, row).going_on(None, Some(3));
+    let prefix = job.prefix_after(&job.chain());
+    check(rt, prefix.links == 3, "it stops after three links");
     let row = job.into_row();
     let mut shared = SharedPrefixes::new(alloc, plans).expect(rt, "memory");
     check(rt, shared.prefix(plans, 1).is_none(), "it is not known yet");

@@ -10,4 +10,4 @@ place_of-from-requires-clause-shared_prefix c =
 
 pub returns : goal.returns
 returns c = λ v is.
-    start-prefix c.args.table.now c.args.plans.now c.args.start c.in_ok-plan.plan.now c.filled.new.row.digests v c.in_ok-plan.ensures (is ∙ c.new.ensures)
+    start-prefix c.args.table.now c.args.plans.now c.args.start c.in_ok-plan.plan.now c.filled.new.row.digests v c.in_ok-plan.ensures (is ∙ c.new.ensures.value)

@@ -10,7 +10,7 @@ use Rattle.rim_chain.proofs.starting.put_group.Goals as goal
 pub loop-i-preserved : goal.loop-i-preserved
 loop-i-preserved c = λ before.
     let none : Measurement = record { bytes = [] } in
-    let no_chain : ChainView = record { algo = Sha256; value = []; left = [] } in
+    let no_chain : ChainView = record { algo = Sha256; value = []; left = []; end = 0 } in
     let no_start : Start = record { number = 0; links = 0; parts = 0 } in
     let same = same-at (λ (m : Measurement). m.bytes) chains_to c.side_by_side.new.values c.begin_each.new.chains c.loop-i.i none no_chain
     c.side_by_side.ensures (omega (arith, c.loop-i-test.true, c.begin_each.ensures.size)) in

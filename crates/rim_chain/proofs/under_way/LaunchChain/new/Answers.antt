@@ -24,8 +24,8 @@ invariant_of-result c =
       filled = omega (arith, count, c.requires.from.pages, c.split_at-4.ensures.back_len, c.split_at-2.ensures.front_len, c.pages_before.ensures);
     })
 
-pub returns : goal.returns
-returns c =
+pub returns-clause-value : goal.returns-clause-value
+returns-clause-value c =
     let p = c.args.plan.now in
     let d = c.args.row.now.digests in
     let links : List Link = drop c.args.from.links (take c.args.end p.links) in

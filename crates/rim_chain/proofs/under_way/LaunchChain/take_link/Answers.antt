@@ -17,6 +17,7 @@ pub returns-in-Some : goal.returns-in-Some
 returns-in-Some c =
     let empty = c.part_count.ensures (omega (arith, c.if-part_count-gt0.false)) in
     let digests = c.self.inside.digests.now in
-    let with_left = λ (parts : List Part). let v : ChainView = record { algo = c.self.inside.algo; value = c.self.inside.value.bytes; left = parts } in v in
+    let with_left = λ (parts : List Part).
+    let v : ChainView = record { algo = c.self.inside.algo; value = c.self.inside.value.bytes; left = parts; end = c.self.inside.end } in v in
     ap with_left (ap (λ (ls : List Link). parts_with ls digests) (sym c.in-Some.ensures.cases.0)
     ∙ sym (empty-first c.self.inside.rest c.self.inside.links.now digests empty)) ∙ c.self.view_is
