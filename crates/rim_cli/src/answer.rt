@@ -31,7 +31,7 @@ use rim_release::{
 use rim_words::{Ask, FileAsk, Format, LaunchAsk, ManifestAsk, Request, VERSION};
 use std::alloc::Global;
 use std::sync::Wait;
-use std::thread::Threads;
+use std::thread::{Threads, available_parallelism};
 
 /// The text that a request asks for, or the bytes of a devicetree, and the exit status that it ends with: 0, or 1 where
 /// the text says that some launch is refused or that a listing is not what it says, or 3 where it says what a check found
@@ -144,6 +144,16 @@ fn file_answer<O: Opener>(
     }
 }
 
+/// How many of so many workers are of use: no more than there are processors that the program may run on, where the system says
+/// that. More would take work from one another, and their launches would not go side by side.
+fn of_use<R: Threads>(rt: &R, workers: u8) -> usize
+    requires { IsCrew workers }
+    ensures { (1 ≤ result) × (result ≤ workers) }
+{
+    let workers = workers as usize;
+    available_parallelism(rt).map_or(workers, |processors| workers.min(processors.get()))
+}
+
 /// The report of a manifest's launches, made by 1 to 64 workers.
 fn measure<R: Threads + Wait + Sync, G: Gate + Sync, O: Opener>(
     rt: &R,
@@ -193,16 +203,17 @@ fn report<R: Threads + Wait + Sync, G: Gate + Sync>(
 {
     let accepted = accept_all(alloc, loaded)?;
     aside.add_refusals(&accepted);
+    let workers = of_use(rt, workers);
     match format {
         Format::Text => {
-            let outcome = measure_accepted(rt, alloc, gate, &accepted, workers as usize)?;
+            let outcome = measure_accepted(rt, alloc, gate, &accepted, workers)?;
             Ok(Report {
                 text: outcome.report,
                 has_refused: outcome.has_refused,
             })
         }
         Format::Json => {
-            let digested = measure_with_digests(rt, alloc, gate, &accepted, workers as usize)?;
+            let digested = measure_with_digests(rt, alloc, gate, &accepted, workers)?;
             Ok(Report {
                 text: report_as_json(alloc, path, bytes, &accepted, &digested)?,
                 has_refused: digested.outcome.has_refused,
