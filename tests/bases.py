@@ -19,7 +19,7 @@ from collections.abc import Callable, Iterator
 from dataclasses import dataclass
 
 from causes import INITRD, qemu_tree
-from helpers import MIB, TOP
+from helpers import MIB, SECONDS, TOP
 from helpers.folders import Folder
 from helpers.guests import LOW, QEMU, STAND_IN, replaced
 from helpers.manifests import launch_of, measured, of_example, of_name, whole
@@ -222,7 +222,7 @@ def changed(program: str, base: Base, there: Machine) -> list[str]:
     value = measured(program, here, table)[base.name]
     alone = base.table | {"launch": [base.launch]}
     here.put("m.toml", whole(alone).encode())
-    status, out, said = here.run(*there.options, "m.toml", base.name, value, start=START, RIM=program)
+    status, out, said = here.run("--seconds", str(SECONDS), *there.options, "m.toml", base.name, value, start=START, RIM=program)
     said = re.sub(r"rim-match: [\d,]+ launches tried.*\n", "", said)
     first = out.split("\n", maxsplit=1)[0]
     if not there.text:

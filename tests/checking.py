@@ -21,6 +21,7 @@ import struct
 import subprocess
 import sys
 
+from helpers import PATIENCE
 from helpers.files import Writer
 from helpers.folders import Folder
 from helpers.tries import at_a_time, differs, program_of, told
@@ -93,7 +94,7 @@ def compared(program: str, folder: Folder, words: tuple[str, ...]) -> list[str]:
     """What a check takes more than it may, beside `rim measure`."""
     time, memory = taken(program, ("measure",), folder)
     own_time, own_memory = taken(program, words, folder)
-    wrong = [] if own_time <= 2 * time + 0.05 else [f"check takes {own_time:.2f} s, and measure {time:.2f}"]
+    wrong = [] if own_time <= 2 * time + 0.05 * PATIENCE else [f"check takes {own_time:.2f} s, and measure {time:.2f}"]
     return wrong + ([] if own_memory <= 2 * memory else [f"check takes {own_memory} KiB, and measure {memory}"])
 
 

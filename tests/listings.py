@@ -20,7 +20,7 @@ import subprocess
 import sys
 import tempfile
 
-from helpers import SECONDS
+from helpers import PATIENCE, SECONDS
 from helpers.rows import difference, write as write_files
 from helpers.tries import program_of
 
@@ -533,6 +533,7 @@ def cost(words, folder, output):
 
 def compare_large(program, folder, known, seconds):
     """How the replay of the file `listing` differs from what is expected, as lines."""
+    seconds *= PATIENCE
     found, seconds_used, memory_used = cost([program, "replay", "listing"], folder, "output")
     memory = os.path.getsize(os.path.join(folder, "listing")) + MEMORY
     wrong = differences(known, found)

@@ -29,9 +29,11 @@ import native  # noqa: E402
 
 TARGETS = {target.name: target for target in native.TARGETS}
 QEMU = "qemu-aarch64"
+# How many times as long the tests may take under it.
+PATIENCE = "20"
 CASES = ("run.py",)
 OTHERS = ("apart.py", "listings.py", "sharing.py", "hypervisors.py", "settling.py", "matching.py", "causes.py", "bases.py", "comparing.py",
-          "verifying.py", "endorsing.py", "checking.py", "saving.py")
+          "verifying.py", "endorsing.py", "checking.py", "saving.py", "workers.py")
 # What is measured where there is nothing else.
 EXAMPLE = "examples/vm"
 FUNCTIONS = ("arg_count", "arg", "errno", "set_errno", "set_thread_name", "alloc", "realloc", "dealloc")
@@ -111,11 +113,11 @@ def alone(target: native.Target, program: str) -> list[str]:
 # ---- the tests
 
 
-def passed_by(name: str, program: str) -> tuple[int, int]:
+def passed_by(name: str, program: str, is_emulated: bool) -> tuple[int, int]:
     """How much a test passes with a program, and how much fails."""
     print(f"--- {name}", flush=True)
     ran = subprocess.run([sys.executable, os.path.join(TOP, "tests", name), program], stdout=subprocess.PIPE, stderr=subprocess.STDOUT, text=True,
-                         errors="replace", check=False)
+                         errors="replace", check=False, env=os.environ | ({"RIM_TEST_PATIENCE": PATIENCE} if is_emulated else {}))
     print(ran.stdout, end="", flush=True)
     found = re.match(r"(\d+) passed, (\d+) failed", (ran.stdout.strip().splitlines() or [""])[-1])
     return (int(found[1]), int(found[2])) if found else (0, 1)
@@ -140,7 +142,8 @@ def all_of_it(target: native.Target, is_whole: bool) -> list[tuple[int, int]]:
     program = started(target, shutil.which(QEMU) or QEMU)
     wrong = tried(alone, target, program)
     print(*(f"WRONG: alone: {line}" for line in wrong), sep="\n", end="\n" * bool(wrong), flush=True)
-    return [*came, (int(not wrong), int(bool(wrong))), *(passed_by(name, program) for name in (*CASES, *(OTHERS if is_whole else ())))]
+    names = (*CASES, *(OTHERS if is_whole else ()))
+    return [*came, (int(not wrong), int(bool(wrong))), *(passed_by(name, program, target.system == native.ARM64) for name in names)]
 
 
 def main(words: list[str]) -> int:

@@ -13,8 +13,10 @@ TOP = os.path.dirname(os.path.dirname(os.path.dirname(os.path.abspath(__file__))
 # The folder of the scripts' modules.
 SCRIPTS = os.path.join(TOP, "scripts")
 MIB = 1 << 20
+# How many times as long as on a processor of its own a run may take: more than once where an emulator runs the program (tests/processors.py).
+PATIENCE = int(os.environ.get("RIM_TEST_PATIENCE", "1"))
 # How long a run may take.
-SECONDS = 60
+SECONDS = 60 * PATIENCE
 
 sys.path.insert(0, SCRIPTS)
 sys.path.insert(0, os.path.join(TOP, "tools", "oracles"))

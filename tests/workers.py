@@ -1,0 +1,135 @@
+#!/usr/bin/env python3
+"""Measures releases by one worker and by more: more workers give the same report, take no more of the processors' time, and are no more than there
+are processors.
+
+    tests/workers.py [PROGRAM]      by default the program that `rt ci` has built
+
+The last line is 'N passed, M failed' over the releases and the numbers of processors.
+"""
+import os
+import subprocess
+import sys
+import time
+from collections.abc import Callable, Iterator
+
+from helpers import PATIENCE, SECONDS
+from helpers.folders import Folder
+from helpers.tries import at_a_time, differs, program_of, told
+
+ENTRY, RUN, BASE = 1 << 12, 1 << 21, 0x4000_0000
+WORKERS = ("1", "2", "3", "4", "8", "64")
+# Times are compared where launches are more than these.
+MOST = 4
+
+
+def launch(name: str, regions: list[tuple[int, int]], algo="sha256", more="") -> str:
+    """A launch with these regions of RAM, whose entries have 4 KiB: where each begins, and how many entries it has."""
+    ram = ", ".join(f"[0x{base:x}, 0x{base + entries * ENTRY:x}]" for base, entries in regions)
+    return f'[[launch]]\nname = "{name}"\nalgo = "{algo}"\ns2sz = 40\nblock_level = 3\nram = [{ram}]\n{more}'
+
+
+def apart(count: int, entries: int, algos=("sha256",)) -> str:
+    """Launches that have nothing in common."""
+    return "".join(launch(f"l{n}", [(BASE + (n << 30), entries)], algos[n % len(algos)]) for n in range(count))
+
+
+def begun_alike(bases: int, followers: int, entries: int) -> str:
+    """Launches from which others go on, each at a place of its own near the end."""
+    text = ""
+    for base in range(bases):
+        at = BASE + (base << 32)
+        text += launch(f"b{base}", [(at, entries)])
+        text += "".join(launch(f"b{base}-{n}", [(at, entries - (n + 1) * 512), (at + (1 << 31), 1000 + n)]) for n in range(followers))
+    return text
+
+
+def tails() -> str:
+    """Launches of different lengths."""
+    return "".join(launch(f"t{n}", [(BASE + (n << 30), 1024 * (n + 1))]) for n in range(24))
+
+
+def recs() -> str:
+    """Launches that differ in their processors alone, with an item of their own."""
+    processors = "rec = [" + ", ".join(["{}"] * 200) + "]\n"
+    return "".join(launch(f"r{n}", [(BASE + (n << 30), 4096)], more=processors) for n in range(12))
+
+
+RELEASES = {
+    "launches that share nothing": lambda: apart(24, 16_384),
+    "nine launches": lambda: apart(9, 30_720),
+    "both algorithms": lambda: apart(24, 12_288, ("sha256", "sha512")),
+    "fewer launches than workers": lambda: apart(3, 16_384),
+    "launches that begin alike": lambda: begun_alike(8, 3, 16_384),
+    "one that begins them all": lambda: begun_alike(1, 20, 65_536),
+    "different lengths": tails,
+    "launches with processors": recs,
+}
+
+
+# ---- reports and times
+
+
+def run(program: str, folder: Folder, workers: str) -> tuple[float, bytes]:
+    """The processors' time that a run takes, in seconds, and what it prints."""
+    ran = subprocess.Popen([program, "measure", "--workers", workers, "manifest.toml"], cwd=folder.path, stdout=subprocess.PIPE, stdin=subprocess.DEVNULL)
+    printed = ran.stdout.read()
+    _, status, used = os.wait4(ran.pid, 0)
+    ran.returncode = os.waitstatus_to_exitcode(status)
+    return used.ru_utime + used.ru_stime, printed if ran.returncode == 0 else b"status %d" % ran.returncode
+
+
+def more_time(program: str, folder: Folder) -> list[str]:
+    """Which numbers of workers take more of the processors' time than one, of the least of some runs."""
+    least = {workers: min(run(program, folder, workers)[0] for _ in range(3)) for workers in ("1", "4", "64")}
+    return [f"{workers} workers take {least[workers]:.2f} s, and one {least['1']:.2f} s"
+            for workers in least if least[workers] > 1.4 * least["1"] + 0.03 * PATIENCE]
+
+
+def same(program: str, text: str) -> list[str]:
+    """More workers give the same report, and take no more time where there are more launches."""
+    folder = Folder({"manifest.toml": b"rim_manifest = 1\n" + text.encode()})
+    alone = run(program, folder, "1")[1]
+    wrong = [] if alone.startswith(b"rim-report 1\n") and b"refused" not in alone else [f"by one worker: {alone[:200]!r}"]
+    wrong += [line for workers in WORKERS for line in differs(f"by {workers}", run(program, folder, workers)[1], alone)]
+    if wrong or text.count("[[launch]]") <= MOST:
+        return wrong
+    # a busy machine may hold up one of the runs
+    return more_time(program, folder) and more_time(program, folder)
+
+
+# ---- threads
+
+
+def most_threads(program: str, processors: set[int]) -> int:
+    """How many threads a run by 64 workers has at most, which may run on these processors."""
+    folder = Folder({"manifest.toml": b"rim_manifest = 1\n" + apart(16, 65_536).encode()})
+    ran = subprocess.Popen([program, "measure", "--workers", "64", "manifest.toml"], cwd=folder.path, stdout=subprocess.DEVNULL,
+                           preexec_fn=lambda: os.sched_setaffinity(0, processors))
+    most, end = 0, time.monotonic() + SECONDS
+    while ran.poll() is None and time.monotonic() < end:
+        try:
+            most = max(most, len(os.listdir(f"/proc/{ran.pid}/task")))
+        except OSError:
+            break
+        time.sleep(0.002)
+    ran.wait()
+    return most
+
+
+def threads(program: str, count: int) -> list[str]:
+    """No more workers are started than there are processors. That they are so many is said where an emulator has no threads of its own."""
+    processors = sorted(os.sched_getaffinity(0))[:count]
+    most = most_threads(program, set(processors))
+    return differs(f"threads on {count}", most, len(processors))
+
+
+def tries(program: str) -> Iterator[tuple[str, Callable[[], list[str]]]]:
+    for name, made in RELEASES.items():
+        yield name, lambda made=made: same(program, made())
+    if PATIENCE == 1:
+        for count in (1, 2):
+            yield f"{count} processors", lambda count=count: threads(program, count)
+
+
+if __name__ == "__main__":
+    sys.exit(told(at_a_time(tries(program_of(sys.argv[1:])), count=1)))
