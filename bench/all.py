@@ -6,8 +6,8 @@ usage: bench/all.py [--wait]
 The building proves what the scripts change, which takes tens of minutes and may share the machine with other work. What an
 earlier run built from the same sources is taken from bench/out. From the line `times` on nothing should run beside it: with
 --wait it takes times only after a line of standard input. Each script's lines come under its name, with the minutes that it
-took. Three scripts are not run, since they compare programs that are named: `lists.py` by placing and listing, `audits.py` by
-audits that are made to cost, and `reports.py` by reports as lines and as JSON.
+took. Four scripts are not run, since they compare programs that are named: `lists.py` by placing and listing, `audits.py` by
+audits that are made to cost, `reports.py` by reports as lines and as JSON, and `crowds.py` by numbers of workers and processors.
 """
 import datetime
 import os
