@@ -1,6 +1,6 @@
 #!/usr/bin/env python3
-"""Measures releases by one worker and by more: more workers give the same report, take no more of the processors' time, and are no more than there
-are processors.
+"""Measures releases by one worker and by more: more workers give the same report, take at most 1.4 times the processors' time of one, and are no
+more than there are processors.
 
     tests/workers.py [PROGRAM]      by default the program that `rt ci` has built
 
@@ -86,7 +86,7 @@ def more_time(program: str, folder: Folder) -> list[str]:
 
 
 def same(program: str, text: str) -> list[str]:
-    """More workers give the same report, and take no more time where there are more launches."""
+    """More workers give the same report, and take little more time where there are more launches."""
     folder = Folder({"manifest.toml": b"rim_manifest = 1\n" + text.encode()})
     alone = run(program, folder, "1")[1]
     wrong = [] if alone.startswith(b"rim-report 1\n") and b"refused" not in alone else [f"by one worker: {alone[:200]!r}"]
