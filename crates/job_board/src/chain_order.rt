@@ -159,7 +159,7 @@ impl ChainOrder {
 }
 
 /// Whether so much of a launch is left that it is best chained beside another.
-fn is_long(plans: &[LaunchPlan], prefixes: &SharedPrefixes, number: usize) -> bool {
+pub(crate) fn is_long(plans: &[LaunchPlan], prefixes: &SharedPrefixes, number: usize) -> bool {
     let links = prefixes
         .shared_prefix(number)
         .map_or(0, |shared_prefix| shared_prefix.links);

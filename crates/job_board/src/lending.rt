@@ -10,12 +10,9 @@ use job_core::Core;
 use job_tasks::{LaunchTask, Run, filled_task, plan_at};
 use page_jobs::{DigestRow, Table};
 use refusal::NoMemory;
-use rim_chain::{LaunchPlan, SharedPrefixes};
+use rim_chain::{LaunchPlan, SharedPrefixes, fewest_together};
 use rim_desc::{Algo, Lanes, MOST_LANES};
 use std::alloc::Global;
-
-/// The fewest launches that are quicker side by side than one after another.
-const FEWEST: usize = 3;
 
 /// For each worker, the launches lent to it, which are best given to it; and rows for lent launches. What is said
 /// here is preferred, and no more: the board gives a launch that was lent to another worker where no other is left.
@@ -51,16 +48,36 @@ impl Lending {
         self.rows.pop()
     }
 
-    /// How many launches a worker is best lent beside one by an algorithm that it was given, where this many are offered, and this
-    /// many of them are by that algorithm.
+    /// How many launches a worker is best lent beside one by an algorithm that it is given, where this many others are offered, and
+    /// this many of them are by that algorithm.
     pub(crate) fn count(&self, algo: Algo, offered: usize, offered_beside: usize) -> usize
         ensures { result < MOST_LANES }
     {
-        if offered_beside.saturating_add(1) < FEWEST {
+        if !is_group(algo, offered_beside) {
             return 0;
         }
         let most = self.lanes.count(algo);
         others_for(most, offered.saturating_add(1), self.lent.len()).min(self.others)
+    }
+
+    /// How many places there are beside the launch by an algorithm that a worker was given: those of a whole group where the launches
+    /// that it was lent make one, also where they are fewer; else none.
+    pub(crate) fn places(&self, worker: usize, algo: Algo) -> usize
+        ensures { result < MOST_LANES }
+    {
+        let Some(lent) = self.lent.get(worker) else {
+            return 0;
+        };
+        if is_group(algo, lent.iter().flatten().count()) {
+            self.lanes.count(algo) - 1
+        } else {
+            0
+        }
+    }
+
+    /// The launch in a place of those that a worker was lent and was not given since.
+    pub(crate) fn lent(&self, worker: usize, place: usize) -> Option<usize> {
+        self.lent.get(worker)?.iter().flatten().nth(place).copied()
     }
 
     /// Whether launches are best given when more of them are ready: this many are offered, and of this many the pages are not
@@ -72,12 +89,14 @@ impl Lending {
             && offered.saturating_add(more) > self.lent.len()
     }
 
-    /// Notes that a worker was lent a launch.
+    /// Notes that a worker is lent a launch, unless that was noted.
     pub(crate) fn note(&mut self, worker: usize, number: usize) {
         if let Some(lent) = self.lent.get_mut(worker) {
             for slot in lent {
                 if slot.is_none() {
                     *slot = Some(number);
+                }
+                if *slot == Some(number) {
                     return;
                 }
             }
@@ -98,6 +117,11 @@ impl Lending {
         }
         None
     }
+}
+
+/// Whether a launch by an algorithm and this many others are quicker side by side than one after another.
+fn is_group(algo: Algo, others: usize) -> bool {
+    others.saturating_add(1) >= fewest_together(algo)
 }
 
 /// How many launches a worker is lent at most, in a run of these.
@@ -125,7 +149,7 @@ fn others_for(most: usize, launches: usize, workers: usize) -> usize
     requires { most ≤ MOST_LANES }
     ensures { result < MOST_LANES }
 {
-    if most < FEWEST || launches <= workers {
+    if most == 0 || launches <= workers {
         0
     } else {
         most - 1

@@ -4,7 +4,7 @@ ghost use Rattle.rim_desc.specs.declared.side_by_side.TheConstants.{MOST_LANES};
 ghost use Rattle.job_core.specs.declared.job.JobState.{JobState};
 ghost use Rattle.job_core.specs.Jobs.{IsOpen, NoneFree};
 
-use crate::chain_order::ChainOrder;
+use crate::chain_order::{ChainOrder, is_long};
 use crate::lending::Lending;
 use crate::side_by_side::SideBySide;
 use job_core::{Core, JobId, JobState};
@@ -55,33 +55,21 @@ impl Preferences {
         self.lending.row()
     }
 
-    /// How many launches a worker is best lent beside one by an algorithm.
-    pub(crate) fn lend_count(&self, algo: Algo) -> usize
+    /// How many places there are beside the launch by an algorithm that a worker was given.
+    pub(crate) fn lend_count(&self, worker: usize, algo: Algo) -> usize
         ensures { result < MOST_LANES }
     {
-        self.lending.count(
-            algo,
-            self.chain_order.offered(),
-            self.chain_order.offered_beside(algo),
-        )
+        self.lending.places(worker, algo)
     }
 
-    /// The launch by an algorithm that is to be lent to a worker next. That it was lent is noted.
-    pub(crate) fn next_to_lend(
-        &mut self,
-        core: &Core,
-        plans: &[LaunchPlan],
-        prefixes: &SharedPrefixes,
-        worker: usize,
-        algo: Algo,
-    ) -> Option<usize>
+    /// The launch in a place of those that a worker was lent, if it is free.
+    pub(crate) fn lent(&self, core: &Core, worker: usize, place: usize) -> Option<usize>
         ensures { IfSome result (IsOpen core.now) }
     {
-        let number = self.chain_order.next_beside(plans, prefixes, algo)?;
+        let number = self.lending.lent(worker, place)?;
         if !core.is_open(number) {
             return None;
         }
-        self.lending.note(worker, number);
         Some(number)
     }
 }
@@ -93,6 +81,7 @@ impl Preferences {
     pub(crate) fn next_launch(
         &mut self,
         core: &mut Core,
+        plans: &[LaunchPlan],
         prefixes: &SharedPrefixes,
         worker: usize,
     ) -> Option<usize>
@@ -109,7 +98,9 @@ impl Preferences {
         if self.waits_for_more(core) && core.free_page().is_some() {
             return None;
         }
-        self.next_open_launch(core)
+        let number = self.next_open_launch(core)?;
+        self.lend_group(core, plans, prefixes, worker, number);
+        Some(number)
     }
 
     /// Whether launches are best given when more of them are ready.
@@ -147,6 +138,36 @@ impl Preferences {
             }
         }
         None
+    }
+
+    /// Lends a worker the launches that are best chained beside one that it is given. No other worker is given any of them before, since
+    /// the board's lock is held from when that one is chosen.
+    fn lend_group(
+        &mut self,
+        core: &Core,
+        plans: &[LaunchPlan],
+        prefixes: &SharedPrefixes,
+        worker: usize,
+        number: usize,
+    ) {
+        let Some(plan) = plans.get(number) else {
+            return;
+        };
+        if !is_long(plans, prefixes, number) {
+            return;
+        }
+        let algo = plan.algo();
+        let offered = self.chain_order.offered();
+        let offered_beside = self.chain_order.offered_beside(algo);
+        for _ in 0..self.lending.count(algo, offered, offered_beside) {
+            let Some(other) = self.chain_order.next_beside(plans, prefixes, algo) else {
+                return;
+            };
+            // A launch may be offered twice.
+            if other != number && core.is_open(other) {
+                self.lending.note(worker, other);
+            }
+        }
     }
 
     /// A free page: the one that the worker is to hash next, if that is one.

@@ -269,11 +269,6 @@ impl<'a, L: Run> LaunchTask<'a, L> {
         self.job.algo()
     }
 
-    /// Whether so much of the launch is left that it is best chained side by side with others.
-    pub fn is_long(&self) -> bool {
-        self.job.is_long()
-    }
-
     /// Its chain, up to where others go on from it first.
     pub(crate) fn chain(&self) -> LaunchChain<'_>
         ensures { IsUnderWay self.now result }

@@ -156,23 +156,22 @@ impl<'a, L: Run> Board<'a, L> {
         self.state.lock(rt).lend_row()
     }
 
-    /// How many launches a worker is best lent beside one by an algorithm.
-    pub(crate) fn lend_count(&self, rt: &impl Wait, algo: Algo) -> usize
+    /// How many places there are beside the launch by an algorithm that a worker has taken.
+    pub(crate) fn lend_count(&self, rt: &impl Wait, worker: usize, algo: Algo) -> usize
         ensures { result < MOST_LANES }
     {
-        self.state.lock(rt).lend_count(algo)
+        self.state.lock(rt).lend_count(worker, algo)
     }
 
-    /// Lends a worker a launch that is ready, to be chained beside one by the same algorithm that it has taken; or hands the row
-    /// back.
+    /// Lends a worker the launch of a place, to be chained beside the one that it has taken; or hands the row back.
     pub(crate) fn lend(
         &self,
         rt: &impl Wait,
         worker: usize,
-        algo: Algo,
+        place: usize,
         row: DigestRow,
     ) -> Result<LaunchTask<'a, L>, DigestRow> {
-        self.state.lock(rt).lend(worker, algo, row)
+        self.state.lock(rt).lend(worker, place, row)
     }
 
     /// Retires a worker. What it holds is then free.

@@ -76,15 +76,12 @@ impl<L: Run> ChainedBeside<L> {
         ensures size { length tasks.new ≡ length tasks.old }
         ensures count { (0 < result) × (result ≤ MOST_LANES) }
     {
-        if !task.is_long() {
-            return 1;
-        }
-        let count = board.lend_count(rt, task.algo());
+        let count = board.lend_count(rt, worker, task.algo());
         for i in 0..count {
             let Some(row) = self.row(rt, board, i) else {
                 break;
             };
-            match board.lend(rt, worker, task.algo(), row) {
+            match board.lend(rt, worker, i, row) {
                 Ok(other) => tasks[i + 1] = Some(other),
                 Err(row) => {
                     self.rows[i] = Some(row);

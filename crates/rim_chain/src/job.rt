@@ -140,12 +140,6 @@ impl<'a> LaunchJob<'a> {
 }
 
 impl<'a> LaunchJob<'a> {
-    /// Whether so much of the launch is left that it is best chained side by side with others.
-    pub fn is_long(&self) -> bool {
-        let links = self.place.map_or(0, |place| place.links);
-        self.plan.is_long_after(links)
-    }
-
     /// The chain of the launch, as far as nothing of it is done, up to where it is to stop.
     pub fn chain(&self) -> LaunchChain<'_>
         ensures { IsUnderWay self.now result }

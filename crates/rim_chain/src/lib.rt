@@ -18,4 +18,4 @@ pub use laws::{
 };
 pub use shared_prefixes::SharedPrefixes;
 pub use starting::{add_prefixes, first_prefixes, put_prefix};
-pub use under_way::{LaunchChain, go_on, no_chains, side_by_side};
+pub use under_way::{LaunchChain, fewest_together, go_on, no_chains, side_by_side};

@@ -315,8 +315,8 @@ fn common_algo(chains: &[LaunchChain]) -> Option<Algo>
 }
 
 /// How many chains must have parts left to be quicker side by side than one after another. A group takes less than twice what a
-/// chain alone does; by SHA-256 it is so little less that two gain nothing.
-fn fewest_together(algo: Algo) -> usize
+/// chain alone does; by SHA-256 it is little less, so that two gain nothing.
+pub fn fewest_together(algo: Algo) -> usize
     ensures { (0 < result) × (result < MOST_LANES) }
 {
     match algo {
@@ -361,7 +361,7 @@ fn next_alone(chains: &[LaunchChain]) -> Option<usize>
     next
 }
 
-/// Extends the measurements of chains by one algorithm by this many of their next parts each, as far as it has so many.
+/// Extends the measurements of chains by one algorithm by this many of their next parts each, or by all where fewer are left.
 fn go_on_together(algo: Algo, chains: &mut [LaunchChain], parts: u64)
     requires few { length chains.old ≤ MOST_LANES }
     requires algo { All (λ c. c.algo ≡ algo) chains.old }

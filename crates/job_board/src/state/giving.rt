@@ -100,7 +100,7 @@ impl<'a, L: Run> BoardState<'a, L> {
         ensures open { IfSome result (IsOpen self.old.core) }
     {
         self.preferences
-            .next_launch(&mut self.core, &self.prefixes, worker)
+            .next_launch(&mut self.core, self.plans, &self.prefixes, worker)
     }
 
     /// The free page that the worker is best given now, if any page is free.
@@ -187,21 +187,22 @@ impl<'a, L: Run> BoardState<'a, L> {
         self.preferences.lend_row()
     }
 
-    /// How many launches a worker is best lent beside one by an algorithm, which it has taken; none where each launch that is ready
-    /// has a worker of its own.
-    pub fn lend_count(&self, algo: Algo) -> usize
+    /// How many places there are beside the launch by an algorithm that a worker has taken, for launches that it is lent: as many as
+    /// are quick side by side, also where fewer are lent. There are none where each launch that was ready had a worker of its own, and
+    /// where the launch is best chained alone.
+    pub fn lend_count(&self, worker: usize, algo: Algo) -> usize
         ensures { result < MOST_LANES }
     {
-        self.preferences.lend_count(algo)
+        self.preferences.lend_count(worker, algo)
     }
 
-    /// Lends a worker a launch that is ready, to be chained beside one by the same algorithm that it has taken. It is not taken by
-    /// that, and is best given to this worker later. The row is handed back where no launch is lent: where none by that
-    /// algorithm is offered, little of the next one is left, or the row has no room for it.
+    /// Lends a worker the launch of a place, which is ready, to be chained beside the one that it has taken. It was chosen when that one
+    /// was. It is not taken by that, and is best given to this worker later. The row is handed back where no launch is in that place, or
+    /// the row has no room for it.
     pub fn lend(
         &mut self,
         worker: usize,
-        algo: Algo,
+        place: usize,
         row: DigestRow,
     ) -> Result<LaunchTask<'a, L>, DigestRow>
         ensures same { self.new ≡ self.old }
@@ -216,7 +217,7 @@ impl<'a, L: Run> BoardState<'a, L> {
             preferences,
             ..
         } = self;
-        let Some(number) = preferences.next_to_lend(core, plans, prefixes, worker, algo) else {
+        let Some(number) = preferences.lent(core, worker, place) else {
             return Err(row);
         };
         lent_task(table, plans, prefixes, *room, number, row)
