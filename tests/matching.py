@@ -416,7 +416,7 @@ def many_steps(path: str) -> list[str]:
         late = left if is_left else tried[len(tried) - sum(tried):]
         wrong += differs(f"{count}: late ones", (len(late) > 0, all(late), is_left and any(tried)), (True, True, False))
         before = len(runs.given)
-        looked.last("what was left")
+        looked.found_in([looked.last("what was left")])
         wrong += differs(f"{count}: what was left", (sum(map(len, runs.given[before:])), looked.left), (len(left), []))
     return wrong
 
@@ -472,6 +472,40 @@ def at_once(_path: str) -> list[str]:
         found = looked.found("many", launches_of([1] * 3000))
         wrong += differs(f"{hit}", (found and found.key, looked.tried, looked.refused), (hit if hit < 3000 else None, tried, 0))
     return wrong
+
+
+def round_after_round(_path: str) -> list[str]:
+    """The next round's runs begin while those of the one before go on; what came of these is taken first."""
+    wrong = []
+    for hit, tried in ((5, [6, 0]), (15, [10, 6]), (99, [10, 10])):
+        looked = search.Search(LateRuns(hit), Value("sha256", NEVER), 10_000, Progress("rim-match"), waits=True)
+        every = launches_of([1] * 20)
+        found = looked.found_in([search.Planned("one", every[:10]), search.Planned("two", every[10:])])
+        wrong += differs(f"{hit}", (found and found.key, [each.tried for each in looked.rounds], looked.refused), (hit if hit < 20 else None, tried, 0))
+    return wrong
+
+
+class SlowRuns(NeverRuns):
+    """A run takes as long as is said."""
+
+    def __init__(self, seconds: float):
+        super().__init__()
+        self.seconds = seconds
+
+    def outcome(self, launches: list[Candidate], value: Value) -> Outcome:
+        time.sleep(self.seconds)
+        return super().outcome(launches, value)
+
+
+def no_time(_path: str) -> list[str]:
+    """No run begins when its round's time is over: its launches were not tried, and a later round may have them."""
+    runs = SlowRuns(1)
+    looked = search.Search(runs, Value("sha256", NEVER), 10_000, Progress("rim-match"), waits=True, at_once=1)
+    looked.found("many", launches_of([1] * 3000), until=time.monotonic() + 0.5)
+    wrong = differs("one run", ([len(each) for each in runs.given], looked.tried, looked.made, looked.rounds[0].is_whole), ([64], 64, 64, False))
+    runs.seconds = 0
+    looked.found("the others", launches_of([1] * 3000))
+    return wrong + differs("all", (looked.tried, looked.made, looked.rounds[1].is_whole), (3000, 3000, True))
 
 
 def fitting(_path: str) -> list[str]:
@@ -823,7 +857,7 @@ def all_tries(program: str):
             yield f"lines of {axis.name} of {name}", lambda axis=axis, name=name: lines_of(program, axis, name)
     for name in ("plain", "stub", "old"):
         yield f"with what {name} begins", lambda name=name: begins(program, name)
-    for look in (in_runs, large_files, heads, many_steps, rounds, at_once, fitting, forms, others, alike, stopped, hidden, lines_said, not_found, words, refused, traces, terminal, installed, documents, example):
+    for look in (in_runs, large_files, heads, many_steps, rounds, at_once, round_after_round, no_time, fitting, forms, others, alike, stopped, hidden, lines_said, not_found, words, refused, traces, terminal, installed, documents, example):
         yield look.__name__, lambda look=look: look(program)
 
 

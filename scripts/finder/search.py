@@ -7,7 +7,9 @@ from collections import deque
 from collections.abc import Callable, Iterable, Iterator, Sequence
 from concurrent.futures import Future, ThreadPoolExecutor
 from dataclasses import dataclass, field
+from typing import NamedTuple
 
+from outside import stopping
 from outside.measurement import Value
 
 from .progress import Progress
@@ -26,17 +28,45 @@ LARGE = 1 << 22
 COSTLY = 1 << 12
 # How many launches are looked at for each one that may be tried: many were tried, or can't be.
 LOOKED_AT = 20
+# How many runs wait for those that go on: what is made next, or the run whose outcome comes first, may take as long as several.
+AHEAD = 6
+
+
+@dataclass(frozen=True)
+class Planned:
+    """A round that is to be tried: what is said of it, and its launches in their order. It tries so many at most, and ends at a time, where that
+    is said. What has more steps than `vast` is left for a last round."""
+
+    about: str
+    candidates: Iterable[Candidate | None]
+    most: int | None = None
+    until: float = math.inf
+    vast: float = math.inf
 
 
 @dataclass
 class Round:
-    """Launches that were tried one after another: what is said of them, how many were tried and refused, and whether these are all of them."""
+    """Launches that were tried one after another: what is said of them, how many were tried and refused, how many were made and their run was
+    not begun, and whether all were made."""
 
     about: str
     tried: int = 0
     refused: int = 0
-    seconds: float = 0.0
-    is_whole: bool = False
+    not_begun: int = 0
+    are_made: bool = False
+
+    @property
+    def is_whole(self) -> bool:
+        """Whether all of them were tried."""
+        return self.are_made and not self.not_begun
+
+
+class Begun(NamedTuple):
+    """A run that goes on or waits for others: its round, its launches, and what comes of it; None where it was not begun."""
+
+    here: Round
+    batch: list[Candidate]
+    future: Future[Outcome | None]
 
 
 def large_of(each: Candidate) -> list[str]:
@@ -82,6 +112,7 @@ class Search:
     costly: int = 0
     keys: set[object] = field(default_factory=set)              # of all launches that were tried: by what one is known from another, whole
     doubles: dict[object, list[Candidate]] = field(default_factory=dict)
+    is_found: bool = False                                      # whether a run has what is looked for: no more are begun
     had: object = None                                          # the key of a launch that has the value, and did not fit
     fitting: Candidate | None = None
     left: list[Candidate] = field(default_factory=list)
@@ -106,41 +137,56 @@ class Search:
 
     def found(self, about: str, candidates: Iterable[Candidate | None], most: int | None = None, until: float = math.inf,
               vast: float = math.inf) -> Candidate | None:
-        """A round: the first of some launches that has the value and fits. It tries so many at most, and ends at a time, where that is said. What
-        has more steps than `vast` is left for a last round. While launches are measured, the next ones are made."""
-        here = Round(about)
-        self.rounds.append(here)
-        started, pool = time.monotonic(), ThreadPoolExecutor(self.at_once)
-        waiting: deque[tuple[list[Candidate], Future[Outcome]]] = deque()
+        """The first launch of one round that has the value and fits."""
+        return self.found_in([Planned(about, candidates, most, until, vast)])
+
+    def found_in(self, planned: Iterable[Planned]) -> Candidate | None:
+        """The first launch that has the value and fits, of some rounds. While launches are measured, the next ones are made, those of the next
+        round too: no processor waits for the last runs of a round."""
+        pool = ThreadPoolExecutor(self.at_once)
+        waiting: deque[Begun] = deque()
         try:
-            for batch in self.batches(self.new(candidates, here, most, min(until, self.until), vast)):
-                if len(waiting) == self.at_once and (hit := self.taken(*waiting.popleft())):
-                    return hit
-                if min(until, self.until) <= time.monotonic():
-                    here.is_whole = False
-                    break
-                waiting.append((batch, pool.submit(self.runs.outcome, batch, self.value)))
-            return self.fitting or next((hit for each in waiting if (hit := self.taken(*each))), None)
+            hit = next(filter(None, (self.found_of(each, pool, waiting) for each in planned)), None)
+            return hit or self.fitting or next(filter(None, map(self.taken, waiting)), None)
         finally:
             pool.shutdown(cancel_futures=True)
-            here.seconds = time.monotonic() - started
             self.progress.end()
 
-    def last(self, about: str) -> Candidate | None:
+    def found_of(self, planned: Planned, pool: ThreadPoolExecutor, waiting: deque[Begun]) -> Candidate | None:
+        """Begins the runs of a round. What came of earlier ones is taken, in their order, where it has come or too many would wait."""
+        here, end = Round(planned.about), min(planned.until, self.until)
+        self.rounds.append(here)
+        for batch in self.batches(self.new(planned, here, end)):
+            while waiting and (len(waiting) >= self.at_once + AHEAD or waiting[0].future.done()):
+                if hit := self.taken(waiting.popleft()):
+                    return hit
+            waiting.append(Begun(here, batch, pool.submit(self.outcome, batch, end)))
+        return self.fitting
+
+    def outcome(self, batch: list[Candidate], end: float) -> Outcome | None:
+        """What comes of a run; None where it is not begun: the script is stopped, its time is over, or one before it has what is looked for."""
+        if self.is_found or stopping.is_stopped() or end <= time.monotonic():
+            return None
+        came = self.runs.outcome(batch, self.value)
+        if came.hit is not None and self.fits is None:
+            self.is_found = True
+        return came
+
+    def last(self, about: str) -> Planned:
         """The last round: of what was left."""
         left, self.left = self.left, []
-        return self.found(about, self.again(left))
+        return Planned(about, self.again(left))
 
     def again(self, left: list[Candidate]) -> Iterator[Candidate]:
         for each in left:
             self.keys.discard(each.key)
             yield each
 
-    def new(self, candidates: Iterable[Candidate | None], here: Round, most: int | None, until: float, vast: float) -> Iterator[Candidate]:
+    def new(self, planned: Planned, here: Round, until: float) -> Iterator[Candidate]:
         """The launches of a round that were not tried, as long as there is time."""
-        end, left = self.limit if most is None else min(self.limit, self.made + most), len(self.left)
+        end, left = self.limit if planned.most is None else min(self.limit, self.made + planned.most), len(self.left)
         most_looks = (end - self.made) * LOOKED_AT
-        for looks, each in enumerate(candidates):
+        for looks, each in enumerate(planned.candidates):
             if self.made >= end or looks > most_looks or time.monotonic() >= until:
                 return
             if each is None:
@@ -154,18 +200,18 @@ class Search:
                     self.doubles.setdefault(each.key, []).append(each)
             else:
                 self.keys.add(each.key)
-                if each.steps > vast:
+                if each.steps > planned.vast:
                     self.left.append(each)
                     continue
                 self.made += 1
                 yield each
-        here.is_whole = len(self.left) == left
+        here.are_made = len(self.left) == left
 
     def batches(self, launches: Iterator[Candidate]) -> Iterator[list[Candidate]]:
         """Launches for a run each."""
         some: list[Candidate] = []
         late: list[Candidate] = []
-        among, most_late = min(max(FIRST, self.tried), LATER), FIRST
+        among, most_late = min(max(FIRST, self.made), LATER), FIRST
         for each in launches:
             self.costly = self.costly or max(COSTLY, 2 * each.steps)
             if each.steps > self.costly:
@@ -182,10 +228,16 @@ class Search:
             yield from in_runs(some)
             yield from in_runs(late)
 
-    def taken(self, batch: list[Candidate], future: Future[Outcome]) -> Candidate | None:
-        """What came of a run: the launch that was looked for, where it is among these."""
+    def taken(self, run: Begun) -> Candidate | None:
+        """What came of a run: the launch that was looked for, where it is among these. Those of a run that was not begun are as if they were not
+        made."""
+        here, batch, future = run
         came = future.result()
-        here = self.rounds[-1]
+        if came is None:
+            here.not_begun += len(batch)
+            self.made -= len(batch)
+            self.keys.difference_update(each.key for each in batch)
+            return None
         here.tried += len(batch) if came.hit is None else came.hit + 1
         here.refused += came.refused
         if self.heard is not None:

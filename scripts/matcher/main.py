@@ -1,17 +1,17 @@
 """The order of the work: the launch as it is, the search, what is printed."""
 from __future__ import annotations
 
+import itertools
 import math
 import shutil
 import sys
 import time
-from collections.abc import Callable
+from collections.abc import Callable, Iterator
 from dataclasses import replace
 
 from comparer import report as kept_report
 from finder.progress import Progress
-from finder.runs import Candidate
-from finder.search import Search
+from finder.search import Planned, Search
 from outside import ending, measurement, programs
 from outside import files as outside_files
 from outside.faults import Fault, WrongWords
@@ -164,16 +164,15 @@ def look(runs: Runs, search: Search, launch: Launch, others: list[parts.Other], 
             return near.origin
     if said_kept := said_of_kept(kept, search.value):
         return said_kept
-    hit = together(runs, search, base) if said.is_far else None
-    hit = hit or Near(runs, base).found(search, said.is_far)
-    if hit is None and not said.is_far:
-        hit = together(runs, search, base)
+    rounds = [together(runs, search, base), Near(runs, base).planned(search, said.is_far)]
+    hit = search.found_in(itertools.chain.from_iterable(rounds if said.is_far else reversed(rounds)))
     return None if hit is None else hit.origin
 
 
-def together(runs: Runs, search: Search, base: Launch) -> Candidate | None:
-    """The launch of which more of what people change is another one at once."""
-    return None if search.is_ended else search.found("what people change together", parts.together(runs, base).launches(), parts.MOST_TOGETHER)
+def together(runs: Runs, search: Search, base: Launch) -> Iterator[Planned]:
+    """A round, as long as the search goes on, of launches of which more of what people change is another one at once."""
+    if not search.is_ended:
+        yield Planned("what people change together", parts.together(runs, base).launches(), parts.MOST_TOGETHER)
 
 
 def match(rim: Rim, folder: str, said: Words) -> int:

@@ -7,7 +7,7 @@ from collections.abc import Iterator
 from dataclasses import dataclass
 
 from finder.runs import Candidate
-from finder.search import COSTLY, Search
+from finder.search import COSTLY, Planned, Search
 
 from .axes import AXES, Axis
 from .files import Files
@@ -59,13 +59,12 @@ class Near:
         most of the time."""
         return max(COSTLY, 2 * steps_of(self.base, self.runs.files)) if count > 1 and others else math.inf
 
-    def found(self, search: Search, is_far: bool) -> Candidate | None:
-        """The first launch that has the value: the one as it is, and then round after round."""
-        hit = search.found("", [self.runs.candidate(Change((), self.base))])
+    def planned(self, search: Search, is_far: bool) -> Iterator[Planned]:
+        """What is tried, as long as the search goes on: the launch as it is, and then round after round."""
+        yield Planned("", [self.runs.candidate(Change((), self.base))])
         for count, others, about in ROUNDS if is_far else ROUNDS[:NEAR]:
-            if hit is not None or search.is_ended:
-                return hit
-            hit = search.found(about, self.launches(count, others), vast=self.vast(count, others))
-        if hit is None and is_far and not search.is_ended:
-            hit = search.last(LAST_ROUND)
-        return hit
+            if search.is_ended:
+                return
+            yield Planned(about, self.launches(count, others), vast=self.vast(count, others))
+        if is_far and not search.is_ended:
+            yield search.last(LAST_ROUND)
