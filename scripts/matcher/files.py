@@ -4,6 +4,7 @@ from __future__ import annotations
 
 import hashlib
 import os
+from collections.abc import Callable, Hashable
 from dataclasses import dataclass, field
 from typing import Any, Protocol
 
@@ -52,10 +53,11 @@ class Files(dict[str, Blob]):
     def __init__(self, rim: Rim, folder: str = "", hints: Hints | None = None):
         super().__init__()
         self.rim, self.folder, self.hints = rim, folder, hints or Hints()
-        self.of_bytes: dict[bytes, str] = {}
+        self.of_keys: dict[Hashable, str] = {}     # files that were made, by what tells them apart
         self.of_changes: dict[object, str | None] = {}
         self.of_begins: dict[object, Any] = {}     # with what REC 0 begins: see begins
         self.flats: dict[str, Flat | None] = {}
+        self.drafts: dict[str, Any] = {}           # trees to change: see trees
         self.made_bytes, self.is_full = 0, False
         self.dumper: Maker | None = None
 
@@ -81,15 +83,24 @@ class Files(dict[str, Blob]):
         hashed and written."""
         some = files.filled(data)
         digest = hashlib.blake2b(some + len(data).to_bytes(8, "big")).digest()
-        if digest not in self.of_bytes:
-            if self.made_bytes + len(data) > MOST_MADE or not self.folder:
+        return self.once(digest, about, len(data), lambda path: files.write(path, some, length=len(data)))
+
+    def resized(self, name: str, about: str, length: int) -> str | None:
+        """A file that is cut, or has zeros after it, each once; None where too many were made. These are large: they are known by their lengths, and
+        nothing is hashed."""
+        return self.once((name, length), about, length, lambda path: files.copy(self[name].path, path, length))
+
+    def once(self, key: Hashable, about: str, length: int, write: Callable[[str], None]) -> str | None:
+        """A file that is made here, unless there is one of this key."""
+        if key not in self.of_keys:
+            if self.made_bytes + length > MOST_MADE or not self.folder:
                 self.is_full = True
                 return None
-            self.made_bytes += len(data)
-            path = os.path.abspath(os.path.join(self.folder, f"made-{len(self.of_bytes) + 1}"))
-            files.write(path, some, length=len(data))
-            self.of_bytes[digest] = self.add(os.path.basename(path), path, about, True)
-        return self.of_bytes[digest]
+            self.made_bytes += length
+            path = os.path.abspath(os.path.join(self.folder, f"made-{len(self.of_keys) + 1}"))
+            write(path)
+            self.of_keys[key] = self.add(os.path.basename(path), path, about, True)
+        return self.of_keys[key]
 
     def flat(self, name: str) -> Flat | None:
         """A devicetree as `rim fdt` reads it; None where it does not."""

@@ -3,6 +3,7 @@ from __future__ import annotations
 
 import functools
 import json
+import operator
 from collections.abc import Hashable, Iterable, Mapping
 from dataclasses import dataclass, fields, replace
 
@@ -76,8 +77,9 @@ class Launch:
         return replace(self, numbers=tuple((key, value) for key in parameters.ALL if (value := found.get(key)) is not None))
 
 
-# The keys of a launch that have one value each, and what docs/FORMATS.md says where a table has not the key.
+# The keys of a launch that have one value each, which of them are no parameters, and what docs/FORMATS.md says where a table has not the key.
 SCALARS = ("algo", "s2sz", *parameters.ALL, "rpv", "block_level", "num_aux", "pool_base", "pool_count", "rec_rule")
+BESIDE = tuple(key for key in SCALARS if key not in parameters.ALL)
 DEFAULTS = {**dict.fromkeys(parameters.KEYS, 0), **dict.fromkeys(parameters.FLAGS, False), "block_level": 2}
 
 
@@ -164,9 +166,13 @@ def steps_of(launch: Launch, files: Mapping[str, Blob]) -> int:
     return blocks_of(launch) + pages_of(launch.item, files)
 
 
+# What a launch has beside its name, its items and its RECs: the realm, its RAM and the order of its steps.
+realm_of = operator.attrgetter(*(each.name for each in fields(Launch) if each.name not in ("name", "item", "rec")))
+
+
 def parts_of(launch: Launch, files: Mapping[str, Blob]) -> tuple[tuple[Hashable, int], ...]:
     """What is measured of it, part by part, each with about how many steps it has: the realm with its RAM, and item by item."""
-    return ((replace(launch, name="", item=(), rec=()), blocks_of(launch)), *((each, pages_of([each], files)) for each in launch.item))
+    return ((realm_of(launch), blocks_of(launch)), *((each, pages_of([each], files)) for each in launch.item))
 
 
 def is_whole(launch: Launch) -> bool:
@@ -234,17 +240,22 @@ def steps_text(steps: tuple[str, ...]) -> str:
     return "[" + ", ".join(map(text, steps)) + "]"
 
 
+scalars_of = operator.attrgetter("numbers", *BESIDE)
+
+
+@functools.lru_cache(maxsize=4096)
+def scalars_text(numbers: tuple[tuple[str, int | bool], ...], *beside: int | str | None) -> str:
+    """The lines of SCALARS: of launches that are tried one after another most have the same."""
+    given = dict(numbers) | dict(zip(BESIDE, beside))
+    return "".join(f"{key} = {value_text(key, given[key])}\n" for key in SCALARS if given.get(key) is not None)
+
+
 def table_text(launch: Launch) -> str:
     """The table of a launch, without its name."""
-    lines = []
-    for key in SCALARS:
-        value = scalar(launch, key)
-        if value is not None:
-            lines.append(f"{key} = {value_text(key, value)}")
-    lines += [f"ram = {ram_text(launch.ram)}", f"item = {items_text(launch.item)}", f"rec = {recs_text(launch.rec)}"]
+    lists = [f"ram = {ram_text(launch.ram)}\n", f"item = {items_text(launch.item)}\n", f"rec = {recs_text(launch.rec)}\n"]
     if launch.steps is not None:
-        lines.append(f"steps = {steps_text(launch.steps)}")
-    return "\n".join(lines) + "\n"
+        lists.append(f"steps = {steps_text(launch.steps)}\n")
+    return "".join([scalars_text(*scalars_of(launch)), *lists])
 
 
 def manifest_head(names: set[str], files: Mapping[str, Blob]) -> str:

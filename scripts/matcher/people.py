@@ -227,6 +227,13 @@ def made(files: Files, item: Item, text: str, make: Callable[[bytes], bytes]) ->
     return files.of_changes[key]
 
 
+def resized(files: Files, item: Item, text: str, length: int) -> str | None:
+    """The file of an item, cut or with zeros after it; None where it has this length."""
+    if item.file is None or length == files[item.file].length:
+        return None
+    return files.resized(item.file, files.changed(item.file, text), length)
+
+
 def of_file(launch: Launch, item: Item, text: str, file: str | None, files: Files) -> Changes:
     """A launch with another file of an item, and what goes with that."""
     if file is None or file == item.file:
@@ -254,10 +261,8 @@ def lengths(launch: Launch, files: Files) -> Changes:
     for item in some:
         for unit in (PAGE, 16 * KIB, 64 * KIB, 512, 4):
             text = f"padded with zeros to whole {unit // KIB} KiB" if unit >= KIB else f"padded with zeros to whole {unit} bytes"
-            more = -files[item.file or ""].length % unit
-            padded = made(files, item, text, lambda data, more=more: data + bytes(more) if more else b"")
+            padded = resized(files, item, text, -(-files[item.file or ""].length // unit) * unit)
             yield from of_file(launch, item, f'"{item.name}" {text}', padded, files)
     for item in some:
         for text, length in cut(files[item.file or ""].length):
-            short = made(files, item, text, lambda data, length=length: data[:length])
-            yield from of_file(launch, item, f'"{item.name}" {text}', short, files)
+            yield from of_file(launch, item, f'"{item.name}" {text}', resized(files, item, text, length), files)

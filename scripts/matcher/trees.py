@@ -5,7 +5,6 @@ changed is left alone: another program has written it, or it has something that 
 """
 from __future__ import annotations
 
-import copy
 import struct
 from collections.abc import Callable, Iterator
 from dataclasses import dataclass, field
@@ -106,16 +105,23 @@ def written(draft: Draft, flat: Flat) -> bytes:
     return whole if is_packed and len(data) == used else whole.ljust(max(len(data), end), b"\0")
 
 
-def draft_of(flat: Flat) -> Draft | None:
-    """A tree to change; None where it would not be the same without a change."""
-    head = flat.tree.header
-    root = copy.deepcopy(flat.tree.root)
+def drafted(flat: Flat) -> Draft | None:
+    """A tree as it can be written; None where it would not be the same without a change."""
+    head, root = flat.tree.header, flat.tree.root
     draft = Draft(root, flat.data[head.strings:head.strings + head.strings_size], rests_of(root, flat.data, head.structure))
     is_plain = head.structure % 4 == 0 and head.structure + head.structure_size == head.strings
     try:
         return draft if is_plain and written(draft, flat) == flat.data else None
     except (ValueError, struct.error):
         return None
+
+
+def draft_of(files: Files, name: str, flat: Flat) -> Draft | None:
+    """A file's tree to change; None where it would not be the same without a change, which is looked at once."""
+    if name not in files.drafts:
+        files.drafts[name] = drafted(flat)
+    draft = files.drafts[name]
+    return draft and Draft(draft.root.copy(), draft.strings, dict(draft.rests))
 
 
 # ---- changes
@@ -249,7 +255,7 @@ def changed(files: Files, name: str, key: object, about: str, change: Callable[[
         return dumped
     if (name, key) not in files.of_changes:
         flat = files.flat(name)
-        draft = draft_of(flat) if flat else None
+        draft = draft_of(files, name, flat) if flat else None
         is_done = draft is not None and change(draft)
         files.of_changes[name, key] = files.made(files.changed(name, about), written(draft, flat)) if is_done and draft and flat else None
     return files.of_changes[name, key]

@@ -76,6 +76,15 @@ def write(path: str, data: bytes, name: str = "", length: int | None = None):
             file.truncate(length)
 
 
+def copy(path: str, new: str, length: int, step: int = 1 << 18):
+    """Makes a new file of the first bytes of another one, with zeros after them where it has fewer than this. Not all are held at once."""
+    with faults_of(path, "a file"), open(opened(path, "a file"), "rb") as given, faults_of(new, "that it can be written"), open(new, "wb") as file:
+        left = length
+        while left and (part := given.read(min(step, left))):
+            left -= file.write(part)
+        file.truncate(length)
+
+
 def filled(data: bytes, step: int = 1 << 16) -> bytes:
     """Some bytes without zeros at their end; these are looked at by so many, so that few may be left."""
     zeros, end = bytes(step), len(data)

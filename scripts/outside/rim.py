@@ -91,6 +91,9 @@ class Node:
         value = self.properties.get(name, b"")
         return int.from_bytes(value, "big") if len(value) == 4 else default
 
+    def copy(self) -> "Node":
+        return Node(self.name, dict(self.properties), [each.copy() for each in self.children])
+
     def walk(self) -> "Iterator[Node]":
         yield self
         for each in self.children:
