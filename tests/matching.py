@@ -486,24 +486,23 @@ def round_after_round(_path: str) -> list[str]:
 
 
 class SlowRuns(NeverRuns):
-    """A run takes as long as is said."""
+    """A run ends when the time of its round is over."""
 
-    def __init__(self, seconds: float):
+    def __init__(self, until: float):
         super().__init__()
-        self.seconds = seconds
+        self.until = until
 
     def outcome(self, launches: list[Candidate], value: Value) -> Outcome:
-        time.sleep(self.seconds)
+        time.sleep(max(0, self.until - time.monotonic()))
         return super().outcome(launches, value)
 
 
 def no_time(_path: str) -> list[str]:
     """No run begins when its round's time is over: its launches were not tried, and a later round may have them."""
-    runs = SlowRuns(1)
+    runs = SlowRuns(time.monotonic() + 3)
     looked = search.Search(runs, Value("sha256", NEVER), 10_000, Progress("rim-match"), waits=True, at_once=1)
-    looked.found("many", launches_of([1] * 3000), until=time.monotonic() + 0.5)
+    looked.found("many", launches_of([1] * 3000), until=runs.until)
     wrong = differs("one run", ([len(each) for each in runs.given], looked.tried, looked.made, looked.rounds[0].is_whole), ([64], 64, 64, False))
-    runs.seconds = 0
     looked.found("the others", launches_of([1] * 3000))
     return wrong + differs("all", (looked.tried, looked.made, looked.rounds[1].is_whole), (3000, 3000, True))
 
