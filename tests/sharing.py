@@ -110,6 +110,24 @@ def read_files() -> list[str]:
     return wrong + [said] * (said != "/dev/full: No space left on device, expected that it can be written")
 
 
+def copied_files() -> list[str]:
+    """A copy has so many of a file's first bytes, and zeros where it has fewer."""
+    wrong, data = [], bytes(range(1, 200))
+    with tempfile.TemporaryDirectory() as here:
+        path, new = os.path.join(here, "file"), os.path.join(here, "new")
+        files.write(path, data)
+        for length, step in ((0, 64), (63, 64), (64, 64), (150, 64), (199, 64), (300, 64), (300, 4096)):
+            files.copy(path, new, length, step)
+            came = files.read(new, 4096)
+            wrong += [f"{length} by {step}: {came!r}"] * (came != data[:length].ljust(length, b"\0"))
+        faults = (((path, "/dev/full"), "/dev/full: No space left on device, expected that it can be written"),
+                  ((here, new), f"{here}: it is a folder, expected a file"))
+        for (given, made), fault in faults:
+            said = fault_of(lambda given=given, made=made: files.copy(given, made, 64))
+            wrong += [f"{said}, expected {fault}"] * (said != fault)
+    return wrong
+
+
 def read_data() -> list[str]:
     found = [(data[:40], fault_of(lambda call=call, data=data: call("x", data)), expected) for call, data, expected in DATA]
     return [f"{data!r}: {said!r}, expected {expected!r}" for data, said, expected in found if not said.startswith(expected)]
@@ -400,7 +418,7 @@ def trees(program: str) -> list[str]:
 
 def run_all() -> int:
     program = program_of(sys.argv[1:])
-    looks = {look.__name__: look for look in (shown_texts, read_files, read_data, run_programs, stopped, ends, versions)}
+    looks = {look.__name__: look for look in (shown_texts, read_files, copied_files, read_data, run_programs, stopped, ends, versions)}
     looks |= {look.__name__: partial(look, program) for look in (images, trees, oldest)}
     return told([(name, look()) for name, look in looks.items()])
 
