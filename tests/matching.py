@@ -47,6 +47,7 @@ from matcher.search import ROUNDS, Near
 from matcher.words import LIMIT, TAKES
 from outside.measurement import Value
 from outside.rim import Rim
+from outside.stopping import Stopped
 
 START = os.path.join(TOP, "rim-match")
 FILES = {"Image": image(text_offset=0x1000, length=9_000), "initrd": bytes(n * 91 % 253 for n in range(5001)), "stub": bytes(range(1, 41)),
@@ -507,6 +508,32 @@ def no_time(_path: str) -> list[str]:
     return wrong + differs("all", (looked.tried, looked.made, looked.rounds[1].is_whole), (3000, 3000, True))
 
 
+class StoppedRuns(NeverRuns):
+    """The first run is stopped by a signal, once so many launches of others were measured."""
+
+    def __init__(self, count: int):
+        super().__init__()
+        self.count, self.rest = count, threading.Event()
+
+    def outcome(self, launches: list[Candidate], value: Value) -> Outcome:
+        if launches[0].key == 0 and self.rest.wait(60):
+            raise Stopped(signal.SIGINT)
+        came = super().outcome(launches, value)
+        if sum(map(len, self.given)) == self.count:
+            self.rest.set()
+        return came
+
+
+def stopped_first(_path: str) -> list[str]:
+    """What was measured when a signal comes was tried, also where the run before it goes on."""
+    looked = search.Search(StoppedRuns(3000 - 64), Value("sha256", NEVER), 10_000, Progress("rim-match"), waits=True)
+    try:
+        looked.found("many", launches_of([1] * 3000))
+        return ["it was not stopped"]
+    except Stopped:
+        return differs("tried", looked.tried, 3000 - 64)
+
+
 def fitting(_path: str) -> list[str]:
     """Where a launch that has the value does not fit, another way to the same launch may: one that came before, or one that comes later."""
     wrong = []
@@ -856,7 +883,7 @@ def all_tries(program: str):
             yield f"lines of {axis.name} of {name}", lambda axis=axis, name=name: lines_of(program, axis, name)
     for name in ("plain", "stub", "old"):
         yield f"with what {name} begins", lambda name=name: begins(program, name)
-    for look in (in_runs, large_files, heads, many_steps, rounds, at_once, round_after_round, no_time, fitting, forms, others, alike, stopped, hidden, lines_said, not_found, words, refused, traces, terminal, installed, documents, example):
+    for look in (in_runs, large_files, heads, many_steps, rounds, at_once, round_after_round, no_time, stopped_first, fitting, forms, others, alike, stopped, hidden, lines_said, not_found, words, refused, traces, terminal, installed, documents, example):
         yield look.__name__, lambda look=look: look(program)
 
 

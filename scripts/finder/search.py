@@ -11,6 +11,7 @@ from typing import NamedTuple
 
 from outside import stopping
 from outside.measurement import Value
+from outside.stopping import Stopped
 
 from .progress import Progress
 from .runs import AT_ONCE, MOST_FILES, MOST_LAUNCHES, Candidate, NamedFile, Outcome, Runs, bytes_of
@@ -148,6 +149,10 @@ class Search:
         try:
             hit = next(filter(None, (self.found_of(each, pool, waiting) for each in planned)), None)
             return hit or self.fitting or next(filter(None, map(self.taken, waiting)), None)
+        except Stopped:
+            pool.shutdown(cancel_futures=True)
+            self.count_ended(waiting)
+            raise
         finally:
             pool.shutdown(cancel_futures=True)
             self.progress.end()
@@ -231,22 +236,31 @@ class Search:
     def taken(self, run: Begun) -> Candidate | None:
         """What came of a run: the launch that was looked for, where it is among these. Those of a run that was not begun are as if they were not
         made."""
-        here, batch, future = run
-        came = future.result()
+        came = run.future.result()
         if came is None:
-            here.not_begun += len(batch)
-            self.made -= len(batch)
-            self.keys.difference_update(each.key for each in batch)
+            run.here.not_begun += len(run.batch)
+            self.made -= len(run.batch)
+            self.keys.difference_update(each.key for each in run.batch)
             return None
-        here.tried += len(batch) if came.hit is None else came.hit + 1
-        here.refused += came.refused
-        if self.heard is not None:
-            self.heard(batch)
-        self.progress.show(f"{self.tried:,} launches tried" + f", {here.about}" * bool(here.about))
+        self.count(run, came)
+        self.progress.show(f"{self.tried:,} launches tried" + f", {run.here.about}" * bool(run.here.about))
         if came.hit is None:
             return None
-        hit = batch[came.hit]
+        hit = run.batch[came.hit]
         if self.fits is None:
             return hit
         self.had = hit.key
         return next((each for each in (hit, *self.doubles.get(hit.key, ())) if self.fits(each)), None)
+
+    def count(self, run: Begun, came: Outcome):
+        """Counts the launches of a run as tried."""
+        run.here.tried += len(run.batch) if came.hit is None else came.hit + 1
+        run.here.refused += came.refused
+        if self.heard is not None:
+            self.heard(run.batch)
+
+    def count_ended(self, waiting: Iterable[Begun]):
+        """Counts what was tried where a signal has come: runs that had ended, and whose outcome waited for that of an earlier one."""
+        for run in waiting:
+            if not run.future.cancelled() and run.future.exception() is None and (came := run.future.result()):
+                self.count(run, came)
