@@ -12,4 +12,4 @@ mod order;
 mod slots;
 mod task;
 
-pub use measuring::{Digested, measure_with_digests};
+pub use measuring::{Digested, digested_alone, measure_with_digests};

@@ -4,15 +4,17 @@ ghost use Rattle.refusal.specs.Answer.{Answers};
 ghost use Rattle.sha2.specs.Sha256.{sha256};
 ghost use Rattle.rim_pages.specs.Pages.{page_keys};
 ghost use Rattle.rim_accepted.specs.Lines.{has_refused, outcomes_for, seen};
-ghost use Rattle.rim_report.specs.Report.{is_crew, started_of};
+ghost use Rattle.rim_report.specs.Report.{is_crew, measured_of, started_of};
 
 use crate::beside::DigestsBeside;
 use crate::board::FileBoard;
 use crate::files_of_run::FilesOfRun;
+use crate::slots::digests_alone;
 use job_workers::Gate;
 use launch_json::FileDigest;
 use rim_accepted::AcceptedRelease;
-use rim_report::{Outcome, StartFault, measure_accepted};
+use rim_desc::Lanes;
+use rim_report::{Outcome, StartFault, accepted_alone, measure_accepted};
 use std::alloc::Global;
 use std::marker::Brand;
 use std::sync::Wait;
@@ -54,6 +56,29 @@ pub fn measure_with_digests<G: Gate + Sync, R: Threads + Wait + Sync>(
     ensures unstarted { OnErr result (gate.new ≡ gate.old) }
 {
     run::<Brand, G, R>(rt, alloc, gate, accepted, workers)
+}
+
+/// The same by one worker, the caller. It takes no lock and does not wait.
+pub fn digested_alone(
+    alloc: Global,
+    lanes: Lanes,
+    accepted: &AcceptedRelease<'_>,
+) -> Result<Digested, StartFault>
+    ensures digests { IfOk result (λ d. d.digests.items ≡ map sha256 accepted.now.files) }
+    ensures report { Answers StartFault.NoMemory (λ d. d.outcome.report.items) result
+        (measured_of accepted.now.files accepted.now.release.launches) }
+    ensures launches { IfOk result (λ d. map seen d.outcome.launches.items
+        ≡ outcomes_for accepted.now.files accepted.now.release.launches) }
+    ensures refused { IfOk result (λ d. d.outcome.has_refused
+        ≡ has_refused accepted.now.files accepted.now.release.launches) }
+    ensures pages { IfOk result (λ d. d.outcome.pages
+        ≡ length (page_keys accepted.now.files accepted.now.release.launches)) }
+{
+    let outcome = accepted_alone(alloc, lanes, accepted)?;
+    Ok(Digested {
+        outcome,
+        digests: digests_alone(alloc, accepted.files())?,
+    })
 }
 
 /// The same, by a board of the run's files.

@@ -88,6 +88,16 @@ impl<'a, L: FilesOfRun> FileSlots<'a, L> {
     }
 }
 
+/// The digest of each file, in the files' order, made now.
+pub fn digests_alone(alloc: Global, files: &[Vec<u8>]) -> Result<Vec<FileDigest>, NoMemory>
+    ensures { IfOk result
+        (λ digests. digests.items ≡ map sha256 (bytes_of_files files.now)) }
+{
+    let slots = vec![in alloc; None; files.len()]?;
+    let digests = Vec::with_capacity(alloc, files.len())?;
+    Ok(all_digests(files, &slots, digests))
+}
+
 /// Pushes the digest of each file: the one in its slot, or where that is empty, one that is made now.
 fn all_digests(
     files: &[Vec<u8>],
