@@ -9,3 +9,5 @@ pub mod FaultsOfFiles
 pub mod CheckedLaunches
 -- the map of a launch is that of the launch of its name, and its status says whether it is refused
 pub mod MapsOfLaunches
+-- what came of the launch of a number is that launch's own
+pub mod RimsOfLaunches

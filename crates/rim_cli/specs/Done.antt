@@ -5,6 +5,7 @@ use Rattle.clap.specs.Words.{Text, subcommand_of}
 use Rattle.rim_manifest.specs.Manifest.{Answer, manifest_of, name_in}
 use Rattle.rim_manifest.specs.Launches.{NamedData, ReleaseData}
 use Rattle.rim_manifest.specs.declared.fault.ManifestFault.TheVariants as manifest
+use Rattle.rim_accepted.specs.Accepted.{rim_for}
 use Rattle.rim_accepted.specs.Devicetree.{devicetree_of}
 use Rattle.rim_audit.specs.Listing.{listing_of, text_or_line}
 use Rattle.rim_audit.specs.Trace.{trace_of}
@@ -37,9 +38,10 @@ use Rattle.rim_words.specs.declared.words.ManifestAsk.TheVariants.{Measure, Audi
 use Rattle.rim_words.specs.declared.words.LaunchAsk.TheVariants.{List as Lists, Trace, Map, Dtb}
 use Rattle.rim_words.specs.declared.words.FileAsk.TheVariants.{Replay, Image, Fdt}
 use Rattle.rim_files.specs.declared.fault.Fault.{Fault}
-use Rattle.rim_files.specs.declared.fault.Fault.TheVariants.{Manifest, NoSuchLaunch, Start, Refused, NoDevicetree, Show}
+use Rattle.rim_files.specs.declared.fault.Fault.TheVariants.{Manifest, NoSuchLaunch, Start, Refused, NoDevicetree, Show, NoMemory}
 use Rattle.rim_words.specs.Command.{ReadsRequest, rim}
 use Rattle.rim_files.specs.Files.{AreRead, IfFile, IsFileFault, IsFirstFault, Known}
+use Rattle.rim_cli.specs.declared.rims.LaunchRim.{LaunchRim}
 use Rattle.rim_cli.specs.Unread.{AreUnread}
 use Rattle.rim_cli.specs.Mapped.{IsMapOf}
 use Rattle.rim_cli.specs.Replayed.{IsReplayed}
@@ -171,6 +173,10 @@ IsMapped held format r name text status = OfLaunch held r name (λ l files. IsMa
 abbrev pub IsDevicetree : (List ℕ → Known) → ReleaseData → List ℕ → List ℕ → ℕ → Type 0
 IsDevicetree held r name bytes status = OfLaunch held r name (λ l files. (devicetree_of l.launch files ≡ Ok (Some bytes)) × (status ≡ 0))
 
+-- the Realm Initial Measurement of the launch of a name, and the algorithm that it is by
+abbrev pub IsRim : (List ℕ → Known) → ReleaseData → List ℕ → LaunchRim → Type 0
+IsRim held r name m = OfLaunch held r name (λ l files. (rim_for l.launch files ≡ Ok m.rim.bytes) × (m.algo ≡ l.launch.config.algo))
+
 -- the text that is asked of the file at a path and its status, where the file has these bytes
 abbrev pub IsAnswer : (List ℕ → Known) → Ask → List ℕ → List ℕ → List ℕ → ℕ → Type 0
 IsAnswer held (ask.Manifest (Measure workers format)) path bytes text status = IsOkAnd (manifest_of bytes) (λ r. IsReport format path bytes held r text status)
@@ -214,6 +220,15 @@ IsDtbFault held name r _ = ⊥
 
 abbrev pub RefusesDtb : (List ℕ → Known) → List ℕ → ReleaseData → Fault → Type 0
 RefusesDtb held name r fault = RefusesListing held name r fault ⊎ IsDtbFault held name r fault
+
+-- why the launch of a name has no measurement: the release has none, or the launch is refused
+abbrev pub IsRimFault : (List ℕ → Known) → List ℕ → ReleaseData → Fault → Type 0
+IsRimFault held name r (Refused fault) = OfLaunch held r name (λ l files. rim_for l.launch files ≡ Err fault)
+IsRimFault held name r NoMemory = Unit {0}
+IsRimFault held name r fault = IsStartFault held r fault
+
+abbrev pub RefusesRim : (List ℕ → Known) → List ℕ → ReleaseData → Fault → Type 0
+RefusesRim held name r fault = RefusesListing held name r fault ⊎ IsRimFault held name r fault
 
 abbrev pub RefusesAudit : (List ℕ → Known) → ReleaseData → Fault → Type 0
 RefusesAudit held r fault = IsFirstFault held r.paths fault

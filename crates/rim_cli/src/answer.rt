@@ -18,14 +18,14 @@ use crate::found::{read_launch, read_release, release_in};
 use crate::freed::keep_freed_memory;
 use crate::mapping::map;
 use crate::replaying::replay;
-use file_digests::{Digested, measure_with_digests};
+use file_digests::{Digested, digested_alone, measure_with_digests};
 use refusal::NoMemory;
 use rim_check::refusals;
 use rim_files::{Fault, Opener, read_file, read_files};
 use rim_json::json_report;
 use rim_release::{
-    AcceptedRelease, Gate, Lanes, LoadedRelease, Report, StartFault, accept_all, audit_with_gate,
-    listing_or_refusal, measure_accepted, placed_devicetree, show_fdt, show_image,
+    AcceptedRelease, Gate, Lanes, LoadedRelease, Report, StartFault, accept_all, accepted_alone,
+    audit_with_gate, listing_or_refusal, measure_accepted, placed_devicetree, show_fdt, show_image,
     trace_or_refusal,
 };
 use rim_words::{Ask, FileAsk, Format, LaunchAsk, ManifestAsk, Request, VERSION};
@@ -61,7 +61,32 @@ pub fn answer_to<R: Threads + Wait + Sync, G: Gate + Sync, O: Opener>(
 {
     let path = request.path;
     match request.ask {
-        Ask::Manifest(ask) => manifest_answer(rt, alloc, gate, opener, path, ask, aside),
+        Ask::Manifest(ManifestAsk::Measure { workers, format }) => {
+            measure(rt, alloc, gate, opener, path, workers, format, aside)
+        }
+        _ => answer_alone(alloc, gate, request, opener, aside),
+    }
+}
+
+/// The same answer, made on the calling thread alone, whatever number of workers is asked for. It takes no lock and does not wait. The gate
+/// is called by an audit.
+pub fn answer_alone<G: Gate, O: Opener>(
+    alloc: Global,
+    gate: &G,
+    request: Request,
+    opener: &mut O,
+    aside: &mut Aside,
+) -> Result<Answer, Fault>
+    ensures answered { IfOk result (λ a. IfFile (O.held opener.old request.entry.path.now)
+        (λ bytes. IsAnswer (O.held opener.old) request.entry.ask request.entry.path.now bytes
+        a.text.items a.status)) }
+    ensures refused { IfErr result (Refuses (O.held opener.old) request.entry.ask
+        (O.held opener.old request.entry.path.now)) }
+    ensures status { IfOk result (λ a. (a.status ≤ 1) ⊎ (a.status ≡ 3)) }
+{
+    let path = request.path;
+    match request.ask {
+        Ask::Manifest(ask) => manifest_answer(alloc, gate, opener, path, ask, aside),
         Ask::Launch { launch, ask } => {
             launch_answer(alloc, gate.lanes(), opener, path, launch, ask, aside)
         }
@@ -70,16 +95,14 @@ pub fn answer_to<R: Threads + Wait + Sync, G: Gate + Sync, O: Opener>(
 }
 
 /// The answer to what is asked of a manifest.
-fn manifest_answer<R: Threads + Wait + Sync, G: Gate + Sync, O: Opener>(
-    rt: &R,
+fn manifest_answer<G: Gate, O: Opener>(
     alloc: Global,
-    gate: &mut G,
+    gate: &G,
     opener: &mut O,
     path: &str,
     ask: ManifestAsk,
     aside: &mut Aside,
 ) -> Result<Answer, Fault>
-    requires { HasCrew (Ask.Manifest ask) }
     ensures answered { IfOk result (λ a. IfFile (O.held opener.old path.now)
         (λ bytes. IsAnswer (O.held opener.old) (Ask.Manifest ask) path.now bytes
         a.text.items a.status)) }
@@ -88,8 +111,8 @@ fn manifest_answer<R: Threads + Wait + Sync, G: Gate + Sync, O: Opener>(
     ensures status { IfOk result (λ a. (a.status ≤ 1) ⊎ (a.status ≡ 3)) }
 {
     match ask {
-        ManifestAsk::Measure { workers, format } => {
-            measure(rt, alloc, gate, opener, path, workers, format, aside)
+        ManifestAsk::Measure { format, .. } => {
+            measure_alone(alloc, gate.lanes(), opener, path, format, aside)
         }
         ManifestAsk::Audit => audit(alloc, gate, opener, path, aside),
         ManifestAsk::Check { quiet, format } => {
@@ -144,7 +167,7 @@ fn file_answer<O: Opener>(
     }
 }
 
-/// How many of so many workers are of use: no more than there are processors that the program may run on, where the system says
+/// How many of this many workers are of use: no more than there are processors that the program may run on, where the system says
 /// that. More would take work from one another, and their launches would not go side by side.
 fn of_use<R: Threads>(rt: &R, workers: u8) -> usize
     requires { IsCrew workers }
@@ -181,6 +204,30 @@ fn measure<R: Threads + Wait + Sync, G: Gate + Sync, O: Opener>(
     Ok(answer_of(report.map_err(Fault::Start)?))
 }
 
+/// The same report, made on the calling thread alone.
+fn measure_alone<O: Opener>(
+    alloc: Global,
+    lanes: Lanes,
+    opener: &mut O,
+    path: &str,
+    format: Format,
+    aside: &mut Aside,
+) -> Result<Answer, Fault>
+    ensures answered { IfOk result (λ a. IfFile (O.held opener.old path.now) (λ bytes. IsOkAnd
+        (manifest_of bytes)
+        (λ r. IsReport format path.now bytes (O.held opener.old) r a.text.items a.status))) }
+    ensures refused { IfErr result
+        (RefusesManifest (RefusesReport (O.held opener.old)) (O.held opener.old path.now)) }
+    ensures status { IfOk result (λ a. a.status ≤ 1) }
+{
+    let text = read_file(alloc, opener, path)?;
+    let release = release_in(alloc, text.as_slice())?;
+    let files = read_files(alloc, opener, &release)?;
+    let loaded = LoadedRelease::new(&release, &files);
+    let report = report_alone(alloc, lanes, path, &text, loaded, format, aside);
+    Ok(answer_of(report.map_err(Fault::Start)?))
+}
+
 /// The report of the release that a manifest describes, made by 1 to 64 workers, in a format.
 fn report<R: Threads + Wait + Sync, G: Gate + Sync>(
     rt: &R,
@@ -214,6 +261,43 @@ fn report<R: Threads + Wait + Sync, G: Gate + Sync>(
         }
         Format::Json => {
             let digested = measure_with_digests(rt, alloc, gate, &accepted, workers)?;
+            Ok(Report {
+                text: report_as_json(alloc, path, bytes, &accepted, &digested)?,
+                has_refused: digested.outcome.has_refused,
+            })
+        }
+    }
+}
+
+/// The same report, made on the calling thread alone.
+fn report_alone(
+    alloc: Global,
+    lanes: Lanes,
+    path: &str,
+    bytes: &[u8],
+    loaded: LoadedRelease<'_>,
+    format: Format,
+    aside: &mut Aside,
+) -> Result<Report, StartFault>
+    ensures text { IfOk result (λ r. IsReportOf format path.now bytes.now
+        (bytes_of_files loaded.entry.files.now) loaded.entry.release.now r.text.items) }
+    ensures fault { IfErr result (λ e. (e ≡ StartFault.NoMemory) ⊎ (measured_of
+        (bytes_of_files loaded.entry.files.now) loaded.entry.release.now.launches ≡ Err e)) }
+    ensures refused { IfOk result (λ r. r.has_refused ≡ has_refused
+        (bytes_of_files loaded.entry.files.now) loaded.entry.release.now.launches) }
+{
+    let accepted = accept_all(alloc, loaded)?;
+    aside.add_refusals(&accepted);
+    match format {
+        Format::Text => {
+            let outcome = accepted_alone(alloc, lanes, &accepted)?;
+            Ok(Report {
+                text: outcome.report,
+                has_refused: outcome.has_refused,
+            })
+        }
+        Format::Json => {
+            let digested = digested_alone(alloc, lanes, &accepted)?;
             Ok(Report {
                 text: report_as_json(alloc, path, bytes, &accepted, &digested)?,
                 has_refused: digested.outcome.has_refused,
