@@ -1,0 +1,4 @@
+pub mod Codes
+pub mod Held
+pub mod Written
+pub mod Ends
