@@ -1,9 +1,13 @@
 /* The C functions that a program of Rattle's calls beside those of the C library. The kit has them compiled for x86-64 alone: these are the
    same for every processor, written anew after what the kit's os/src/c.rt and libc/src/heap.rt say of them. Nothing proves them:
-   tests/processors.py gives them and the kit's the same arguments. */
-#include <errno.h>
+   tests/processors.py gives them and the kit's the same arguments.
+
+   The library for C needs those of memory alone: with MEMORY_ALONE there are no others, and nothing runs before a program's main. */
 #include <stddef.h>
 #include <stdlib.h>
+
+#ifndef MEMORY_ALONE
+#include <errno.h>
 #include <sys/prctl.h>
 
 /* ---- the words of the command line */
@@ -52,6 +56,7 @@ void rattle_set_errno(int error) {
 int rattle_set_thread_name(const char *name) {
     return prctl(PR_SET_NAME, name, 0, 0, 0);
 }
+#endif
 
 /* ---- memory */
 
