@@ -1,7 +1,7 @@
 #!/usr/bin/env python3
 """Asks the library for C what the program is asked, and looks at what it writes, keeps and exports.
 
-    tests/library.py FOLDER [PROGRAM] [--whole] [--calls ARCHIVE]
+    tests/library.py FOLDER [PROGRAM] [--whole] [--only NAME] [--calls ARCHIVE]
 
 FOLDER has the libraries that tools/package/library.py makes, as dist/ has; PROGRAM is FOLDER/rim-x86_64-v2 where it is not given.
 
@@ -9,7 +9,8 @@ FOLDER has the libraries that tools/package/library.py makes, as dist/ has; PROG
   the program's words.
 - The C in front of the proved calls passes on what it is given, and refuses null pointers: tests/library/passing.c.
 - Each case of tests/ that asks what the library answers has the program's bytes and its status as the code, or its fault: with too little room,
-  with just enough and with more, between guards. Each other library gets some of them, and all with --whole.
+  with just enough and with more, between guards. Each other library gets some of them, and all with --whole. --only picks the cases whose name
+  has NAME.
 - What callers may do with files, texts and null pointers: tests/library/tries.c. Eight threads at a time: threads.c. Each request for memory
   refused in turn: refused.c. The same under valgrind, and compiled with AddressSanitizer and UBSan; library/rim.c too, where ARCHIVE has the
   proved calls alone (by default crates/rim_c/out/librim_c.a, where that exists).
@@ -68,6 +69,7 @@ class Asked:
     made: pathlib.Path
     is_whole: bool
     calls: pathlib.Path | None
+    only: str = ""
     said: list[str] = field(default_factory=list)
 
     def not_asked(self, why: str):
@@ -484,10 +486,11 @@ def compare_all(caller: Caller, runs: list[dict]) -> list[tuple[str, list[str] |
     return outcomes
 
 
-def groups(program: str) -> list[list[dict]]:
+def groups(program: str, only: str) -> list[list[dict]]:
+    """The cases that ask what the library answers, those of the same files together."""
     found: dict[str, list[dict]] = {}
     for run in all_runs(program):
-        if words_of(run):
+        if only in run["name"] and words_of(run):
             found.setdefault(repr(sorted(run["files"].items())), []).append(run)
     return list(found.values())
 
@@ -501,7 +504,7 @@ def share(builds_here: list[Build], build: Build, is_whole: bool) -> int:
 
 def cases(asked: Asked, builds_here: list[Build]) -> Iterator[Outcome]:
     """What comes of the cases by each build."""
-    all_groups = groups(asked.program)
+    all_groups = groups(asked.program, asked.only)
     for build in builds_here:
         caller, some = Caller(build, build.build(asked, "call"), asked.program), all_groups[:: share(builds_here, build, asked.is_whole)]
         with concurrent.futures.ProcessPoolExecutor(len(os.sched_getaffinity(0))) as pool:
@@ -633,10 +636,11 @@ def all_of_it(asked: Asked) -> list[Outcome]:
 
 
 def read_words() -> argparse.Namespace:
-    parser = argparse.ArgumentParser(usage="tests/library.py FOLDER [PROGRAM] [--whole] [--calls ARCHIVE]")
+    parser = argparse.ArgumentParser(usage="tests/library.py FOLDER [PROGRAM] [--whole] [--only NAME] [--calls ARCHIVE]")
     parser.add_argument("folder", type=pathlib.Path)
     parser.add_argument("program", nargs="?")
     parser.add_argument("--whole", action="store_true")
+    parser.add_argument("--only", default="")
     parser.add_argument("--calls", type=pathlib.Path, default=pathlib.Path(TOP, "crates", "rim_c", "out", "librim_c.a"))
     return parser.parse_args()
 
@@ -650,7 +654,7 @@ def main() -> int:
         print("library.py: not asked: there is no C compiler\n0 passed, 0 failed")
         return 0
     with tempfile.TemporaryDirectory() as made:
-        outcomes = all_of_it(Asked(words.folder.resolve(), program, pathlib.Path(made), words.whole, words.calls.resolve()))
+        outcomes = all_of_it(Asked(words.folder.resolve(), program, pathlib.Path(made), words.whole, words.calls.resolve(), words.only))
     if not outcomes:
         print("0 passed, 0 failed")
         return 0

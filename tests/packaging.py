@@ -6,12 +6,13 @@
 The second time all that tar, gzip, xz, dpkg-deb and git take from the environment and from a user's configuration is set, new files may be
 written by everybody, and the folder for temporary files hands its group on. The bytes have to be the same, and the modes plain. Where dist/
 is not of the sources of the last commit, or dpkg-deb is not installed, nothing is asked. Each link of the documents leads somewhere in the
-archive.
+archive. Where dist/ has the library for C, its packages have its files, and say of each of its names since which version it is there.
 
 The last line is 'N passed, M failed'.
 """
 import os
 import pathlib
+import re
 import shutil
 import subprocess
 import sys
@@ -26,6 +27,12 @@ import links  # noqa: E402, the path is set above
 HOSTILE = {"TAR_OPTIONS": "--mode=0777 --format=pax", "DPKG_DEB_COMPRESSOR_LEVEL": "1", "DPKG_DEB_COMPRESSOR_TYPE": "gzip", "GZIP": "-1",
            "DPKG_DEB_THREADS_MAX": "4", "XZ_OPT": "-0", "XZ_DEFAULTS": "-T4", "POSIXLY_CORRECT": "1", "CDPATH": "/", "GIT_DIR": "/none",
            "TZ": "Asia/Tokyo", "PYTHONHOME": "/none", "TWO": "lines\nPATH=/none", "LANG": "xx", "GREP_COLORS": "x"}
+# What the packages of the library have, beside what tells of them; for amd64 there is a shared library more.
+LIBRARY = {"librim0": ["usr/lib/{0}/librim.so.0"],
+           "librim-dev": ["usr/include/rim.h", *(f"usr/lib/{{0}}/{name}" for name in ("librim.a", "librim.so", "pkgconfig/rim.pc"))]}
+WIDE = "usr/lib/{0}/glibc-hwcaps/x86-64-v3/librim.so.0"
+MULTIARCH = {"amd64": "x86_64-linux-gnu", "arm64": "aarch64-linux-gnu"}
+LEAST = {"amd64": "x86_64-v2", "arm64": "aarch64"}
 GITCONFIG = "[core]\n\tautocrlf = true\n\tattributesFile = {0}/attributes\n[tar]\n\tumask = 0\n[log]\n\tshowSignature = true\n[safe]\n\tdirectory = *\n"
 
 
@@ -45,7 +52,7 @@ def modes(path: str) -> list[str]:
     """What has another mode than files and folders of a package, or another owner."""
     with tarfile.open(path) as archive:
         return [f"{each.name}: {each.mode:o} {each.uid} {each.gid}" for each in archive
-                if each.mode not in ((0o755,) if each.isdir() else (0o644, 0o755)) or each.uid or each.gid]
+                if each.mode not in ((0o755,) if each.isdir() else (0o777,) if each.issym() else (0o644, 0o755)) or each.uid or each.gid]
 
 
 def modes_of_package(here: str, path: str) -> list[str]:
@@ -63,6 +70,40 @@ def broken_links(here: str, path: str) -> list[str]:
     found = list(links.links())
     wrong = [f"{page}: {link} leads nowhere" for page, link, ends in found if not ends]
     return wrong + [f"{tree.name}: there are no links"] * (not found)
+
+
+def in_dist(arch: str) -> bool:
+    """Whether the last commit has the library for a processor."""
+    path = f"dist/librim-{LEAST[arch]}.so.0"
+    return subprocess.run(["git", "-C", TOP, "cat-file", "-e", f"HEAD:{path}"], capture_output=True, check=False).returncode == 0
+
+
+def expected_names(version: str) -> list[str]:
+    """The files that deb.sh has to make."""
+    names = [f"rim_{version}_{arch}.deb" for arch in MULTIARCH] + [f"rim-{version}-{machine}-linux.tar.gz" for machine in ("x86_64", "aarch64")]
+    return sorted(names + [f"{name}_{version}_{arch}.deb" for arch in MULTIARCH if in_dist(arch) for name in LIBRARY])
+
+
+def control_of(path: str, name: str) -> str:
+    """A file of those that tell of a package."""
+    said = subprocess.run(["dpkg-deb", "--info", path, name], stdout=subprocess.PIPE, text=True, check=True)
+    return said.stdout
+
+
+def of_library(here: str, path: str) -> list[str]:
+    """What is wrong with a package of the library."""
+    name, _, arch = os.path.basename(path).removesuffix(".deb").split("_")
+    modes_of_package(here, path)
+    with tarfile.open(os.path.join(here, "package.tar")) as archive:
+        files = sorted(each.name.removeprefix("./") for each in archive if not each.isdir() and "/share/doc/" not in each.name)
+    wanted = sorted(each.format(MULTIARCH[arch]) for each in [*LIBRARY[name], *([WIDE] if name == "librim0" and arch == "amd64" else [])])
+    wrong = [] if files == wanted else [f"{files}, expected {wanted}"]
+    if name == "librim0":
+        with open(os.path.join(TOP, "library", "rim.h"), encoding="utf-8") as file:
+            calls = re.findall(r"^rim_code (rim_\w+)\(", file.read(), re.M)
+        said = re.findall(r"^ (rim_\w+)@RIM_0 ", control_of(path, "symbols"), re.M)
+        wrong += [] if said == sorted(calls) else [f"symbols: {said}"]
+    return [f"{os.path.basename(path)}: {line}" for line in wrong]
 
 
 def packages(here: str) -> list[str] | None:
@@ -83,11 +124,15 @@ def packages(here: str) -> list[str] | None:
         file.write(GITCONFIG.format(here))
     hostile = made(here, "hostile", 0, TMPDIR="temporary", **HOSTILE)
     wrong = [f"{name} is another one" for name in plain[2] if plain[2][name] != hostile[2].get(name)]
-    wrong += [f"{said!r}" for said in (plain[1], hostile[1]) if said] + [f"{sorted(plain[2])}"] * (len(plain[2]) != 4)
+    version = next((name.split("_")[1] for name in plain[2] if name.endswith(".deb")), "none")
+    wrong += [f"{said!r}" for said in (plain[1], hostile[1]) if said] + [f"{sorted(plain[2])}"] * (sorted(plain[2]) != expected_names(version))
     for name in hostile[2]:
         path = os.path.join(here, "hostile", name)
         found = modes_of_package(here, path) if name.endswith(".deb") else modes(path)
         wrong += [f"{name}: {each}" for each in found[:3]]
+        if name.startswith("librim"):
+            wrong += of_library(here, path)
+            continue
         with tarfile.open(path if name.endswith(".gz") else os.path.join(here, "package.tar")) as archive:
             folders = {"outside", "vmm", "matcher", "comparer"} - {os.path.basename(each.name) for each in archive if each.isdir()}
         wrong += [f"{name}: there is no {each}" for each in folders]

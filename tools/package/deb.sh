@@ -4,6 +4,9 @@
 #   tools/package/deb.sh [FOLDER]       rim_VERSION_amd64.deb, rim-VERSION-x86_64-linux.tar.gz, rim_VERSION_arm64.deb and
 #                                       rim-VERSION-aarch64-linux.tar.gz in FOLDER, by default out/
 #
+# Where dist/ has the library for a processor, librim0_VERSION_ARCH.deb and librim-dev_VERSION_ARCH.deb are made too: the shared library, for which
+# amd64 has one for x86-64-v3 beside it, which the system's loader takes by itself; and the header, the archive and rim.pc.
+#
 # They are made of the last commit, so what is not committed is not in them; dist/ has to be of its sources. The same commit gives the
 # same bytes again, where dpkg-deb, xz, tar and gzip are of the same versions: each time is that of the commit, or SOURCE_DATE_EPOCH.
 # The maintainer is who made that commit, or DEBFULLNAME and DEBEMAIL. It is made on x86-64, since the version is asked of the program.
@@ -27,7 +30,7 @@ fail() {
 is_dist_of_sources() {
     grep -E '^[0-9a-f]{64}  ' dist/SOURCE >"$work/sums"
     # shellcheck disable=SC2046 # the folders are words
-    find crates.txt dist/rim-* $(sed -n 's/^folders //p' dist/SOURCE) -type f | sort >"$work/files"
+    find crates.txt $(find dist -name '*rim-*') $(sed -n 's/^folders //p' dist/SOURCE) -type f | sort >"$work/files"
     cut -c 67- "$work/sums" | sort >"$work/named"
     diff "$work/named" "$work/files" >&2 && b2sum --check --quiet "$work/sums" >&2
 }
@@ -70,7 +73,7 @@ put_documents() {
         put_packed "$page" "share/man/man1/${page##*/}"
     done
     tools/package/documents.py "$tree"
-    packaged_copyright >"$tree/share/doc/rim/copyright"
+    { packaged_head && of_programs && packaged_licences; } >"$tree/share/doc/rim/copyright"
     packaged_changes >"$work/changelog"
     put_packed "$work/changelog" share/doc/rim/changelog
 }
@@ -85,13 +88,16 @@ put_completions() {
     done
 }
 
-packaged_copyright() {
+packaged_head() {
     echo "Format: https://www.debian.org/doc/packaging-manuals/copyright-format/1.0/"
     echo "Upstream-Name: rim"
     echo
     echo "Files: *"
     sed -n 's/^Copyright (c) /Copyright: /p' LICENSE-MIT
     echo "License: Apache-2.0 or MIT"
+}
+
+of_programs() {
     echo "Comment:"
     echo " The programs have in them what they call of the GNU C library (LGPL-2.1 or later)"
     echo " and of GCC's own functions (GPL-3 with the GCC Runtime Library Exception). Those"
@@ -99,6 +105,9 @@ packaged_copyright() {
     sed -n 's/^package \([^ ]*\) \([^ ]*\) .*/ \1 \2/p' dist/SOURCE
     echo " of Debian. What they are linked with is built of the sources of rim, by the kit"
     echo " that its README.md names."
+}
+
+packaged_licences() {
     echo
     echo "License: Apache-2.0"
     echo " The whole text is in /usr/share/common-licenses/Apache-2.0."
@@ -115,14 +124,17 @@ packaged_changes() {
     echo " -- $maintainer  $(date -u -R -d "@$SOURCE_DATE_EPOCH")"
 }
 
+installed_size() {
+    find "$package/usr" -printf '%y %s\n' | awk '{ kib += $1 == "f" ? int(($2 + 1023) / 1024) : 1 } END { print kib }'
+}
+
 control() {
-    size=$(find "$package/usr" -printf '%y %s\n' | awk '{ kib += $1 == "f" ? int(($2 + 1023) / 1024) : 1 } END { print kib }')
     cat <<END
 Package: rim
 Version: $version
 Architecture: $arch
 Maintainer: $maintainer
-Installed-Size: $size
+Installed-Size: $(installed_size)
 Depends: python3 (>= 3.9)
 Recommends: python3 (>= 3.11) | python3-tomli
 Section: utils
@@ -159,11 +171,97 @@ make_package() {
     overrides >"$package/usr/share/lintian/overrides/rim"
     find "$package/usr" -type f -perm -u+x -exec sed -i '1s|^#!/usr/bin/env python3$|#!/usr/bin/python3|' {} +
     control >"$package/DEBIAN/control"
+    close_package
+}
+
+# Makes the file of a package of all that is in its folder.
+close_package() {
     (cd "$package" && find usr -type f | sort | xargs md5sum) >"$package/DEBIAN/md5sums"
     set_modes "$package"
     set_times "$package"
     # xz by one thread: by more its bytes are others
     DPKG_DEB_THREADS_MAX=1 dpkg-deb --root-owner-group -Zxz -z6 --build "$package" "$work/$deb" >/dev/null
+}
+
+# ---- the library
+
+# Begins a package of the library, of this name.
+open_library() {
+    package=$work/$1-$arch
+    tree=$package/usr
+    deb=$1_${version}_$arch.deb
+    mkdir -p "$package/DEBIAN" "$tree/share/doc/$1"
+    { packaged_head && packaged_licences; } >"$tree/share/doc/$1/copyright"
+    put_packed "$work/changelog" "share/doc/$1/changelog"
+}
+
+# Its name, its section, what it needs, and what it is. The rest of what it is comes from standard input.
+library_control() {
+    cat <<END
+Package: $1
+Source: rim
+Version: $version
+Architecture: $arch
+Multi-Arch: same
+Maintainer: $maintainer
+Installed-Size: $(installed_size)
+Depends: $3
+Section: $2
+Priority: optional
+Description: $4
+ An Arm CCA realm is a confidential VM, which is measured while it is built. A
+ verifier compares its Realm Initial Measurement with an expected value. This
+ library computes that value from a manifest and its files in memory.
+END
+    sed 's/^/ /; s/^ $/ ./'
+}
+
+# Which package programs need that are linked with the shared library, for all of its names the version that is packaged.
+library_symbols() {
+    echo "librim.so.0 librim0 #MINVER#"
+    {
+        echo "RIM_0"
+        sed -n 's/^rim_code \(rim_[a-z_]*\)(.*/\1/p' library/rim.h
+    } | sort | sed "s/.*/ &@RIM_0 $version/"
+}
+
+make_shared() {
+    open_library librim0
+    put 644 "dist/librim-$least.so.0" "lib/$multiarch/librim.so.0"
+    [ ! -f "dist/librim-$machine-v3.so.0" ] || put 644 "dist/librim-$machine-v3.so.0" "lib/$multiarch/glibc-hwcaps/x86-64-v3/librim.so.0"
+    echo "librim 0 librim0 (>= $version)" >"$package/DEBIAN/shlibs"
+    library_symbols >"$package/DEBIAN/symbols"
+    echo "activate-noawait ldconfig" >"$package/DEBIAN/triggers"
+    library_control librim0 libs "libc6 (>= 2.17)" "measurements of Arm CCA realms, shared library" </dev/null >"$package/DEBIAN/control"
+    close_package
+}
+
+make_development() {
+    open_library librim-dev
+    put 644 library/rim.h include/rim.h
+    put 644 "dist/librim-$least.a" "lib/$multiarch/librim.a"
+    ln -s librim.so.0 "$tree/lib/$multiarch/librim.so"
+    mkdir "$tree/lib/$multiarch/pkgconfig"
+    sed "s|@prefix@|/usr|; s|@libdir@|/usr/lib/$multiarch|; s|@version@|$version|" library/rim.pc.in >"$tree/lib/$multiarch/pkgconfig/rim.pc"
+    [ ! -f docs/LIBRARY.md ] || put 644 docs/LIBRARY.md share/doc/librim-dev/LIBRARY.md
+    library_control librim-dev libdevel "librim0 (= $version)" "measurements of Arm CCA realms, for C programs" >"$package/DEBIAN/control" <<END
+
+This package has the header, the archive, and what pkg-config reads.
+END
+    close_package
+}
+
+# The packages of the library, where dist/ has it for this processor.
+make_library() {
+    least=$machine
+    [ "$machine" != x86_64 ] || least=x86_64-v2
+    multiarch=$machine-linux-gnu
+    [ -f "dist/librim-$least.so.0" ] || return 0
+    for each in make_shared make_development; do
+        $each
+        place "$deb"
+        made="$made $deb"
+    done
 }
 
 make_archive() {
@@ -224,6 +322,7 @@ for both in x86_64:amd64 aarch64:arm64; do
     place "$deb"
     place "$archive"
     made="$made $deb $archive"
+    make_library
 done
 cd "$out"
 # shellcheck disable=SC2086 # the names are words
