@@ -30,8 +30,8 @@ typedef struct rim_file {
     size_t length;
 } rim_file;
 
-/* What a call ends with. The first three say that there is an answer: its bytes are at the beginning of `out`, and `*length` says how many. With
-   RIM_ROOM nothing but `*length` is written: how many bytes the answer has. With all others nothing is written. */
+/* What a call ends with. RIM_OK, RIM_REFUSED and RIM_FAULTY say that there is an answer: its bytes are at the beginning of `out`, and `*length` says
+   how many. With RIM_ROOM nothing but `*length` is written: how many bytes the answer has. With all others nothing is written. */
 typedef enum rim_code {
     RIM_OK = 0,
     /* The answer says that some launch is refused, or that a listing is not what it says. */
