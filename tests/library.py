@@ -29,6 +29,7 @@ import shutil
 import subprocess
 import sys
 import tempfile
+import threading
 import time
 import tomllib
 from collections.abc import Callable, Iterator
@@ -36,7 +37,7 @@ from dataclasses import dataclass, field
 
 from helpers import PATIENCE, SECONDS, TOP
 from helpers.rows import all_runs, contents, difference, write
-from helpers.tries import Outcome, differs, told, tried
+from helpers.tries import Outcome, at_a_time, differs, told
 
 sys.path.insert(0, os.path.join(TOP, "tools", "package"))
 
@@ -71,6 +72,8 @@ class Asked:
     calls: pathlib.Path | None
     only: str = ""
     said: list[str] = field(default_factory=list)
+    built: set[str] = field(default_factory=set)
+    building: threading.Lock = field(default_factory=threading.Lock)
 
     def not_asked(self, why: str):
         line = f"library.py: not asked: {why}"
@@ -205,11 +208,16 @@ class Build:
     environment: tuple[tuple[str, str], ...] = ()
 
     def build(self, asked: Asked, name: str, *more: str) -> str:
-        """A program of tests/library."""
+        """A program of tests/library, which is built once."""
         out = str(asked.made / f"{name}-{self.name}")
-        sources = [str(HERE / f"{name}.c"), str(HERE / "given.c")]
-        done([*self.words, *C_FLAGS, *sources, *self.linked, *more, "-o", out])
+        with asked.building:
+            if out not in asked.built:
+                self.make(name, out, *more)
+                asked.built.add(out)
         return out
+
+    def make(self, name: str, out: str, *more: str):
+        done([*self.words, *C_FLAGS, str(HERE / f"{name}.c"), str(HERE / "given.c"), *self.linked, *more, "-o", out])
 
     def run(self, program: str, *words: str, folder: str | pathlib.Path = TOP, **more) -> subprocess.CompletedProcess:
         return here([*self.start, program, *words], folder, env=os.environ | dict(self.environment), **more)
@@ -219,16 +227,14 @@ class Build:
 class ForArm(Build):
     """The same for arm64, by the kit's compiler and linker."""
 
-    def build(self, asked: Asked, name: str, *more: str) -> str:
-        out = asked.made / f"{name}-{self.name}"
+    def make(self, name: str, out: str, *more: str):
         headers = [word for path in native.ARM64_HEADERS for word in ("-isystem", path)]
         objects = [f"{out}.{source}.o" for source in (name, "given")]
         for source, to in zip((name, "given"), objects):
             done([*self.words, "-nostdinc", *headers, *C_FLAGS, "-fPIC", "-c", str(HERE / f"{source}.c"), "-o", to])
         linker = str(native.kit() / "toolchain/bin/ld.lld")
         done([linker, "-m", native.ARM64.emulation, "-r", "-o", f"{out}.o", *objects, "--whole-archive", *self.linked])
-        native.link(native.TARGETS[2], pathlib.Path(f"{out}.o"), out)
-        return str(out)
+        native.link(native.TARGETS[2], pathlib.Path(f"{out}.o"), pathlib.Path(out))
 
 
 def shared_build(asked: Asked, name: str, cc: str) -> Build:
@@ -521,7 +527,7 @@ def in_valgrind(asked: Asked, build: Build) -> list[str]:
     """The tries and a call of each kind."""
     checked = Build(build.name, build.words, build.linked, tuple(VALGRIND), build.environment)
     wrong = tries(asked, checked)
-    program = str(asked.made / f"call-{build.name}")
+    program = build.build(asked, "call")
     for words in (["measure", "--json", EXAMPLE], ["check", EXAMPLE], ["audit", EXAMPLE], ["map", EXAMPLE, LAUNCH], ["dtb", EXAMPLE, LAUNCH]):
         ran = checked.run(program, *words)
         wrong += [f"{' '.join(words)}: status {ran.returncode}: {ran.stderr.decode(errors='replace')[-800:]}"] * (ran.returncode > 1 or bool(ran.stderr))
@@ -628,11 +634,9 @@ def all_of_it(asked: Asked) -> list[Outcome]:
     if not builds_here or isinstance(builds_here[0], ForArm):
         return []
     outcomes = list(cases(asked, builds_here))
-    parts = [*named_parts(asked, builds_here), *checked_parts(asked, builds_here[0])]
-    for name, look in parts:
-        outcomes.append((name, tried(look)))
-        print(f"{name}: {'as it should be' if not outcomes[-1][1] else 'WRONG'}", flush=True)
-    return outcomes
+    parts = at_a_time([*named_parts(asked, builds_here), *checked_parts(asked, builds_here[0])])
+    print(*(f"{name}: {'WRONG' if wrong else 'as it should be'}" for name, wrong in parts), sep="\n", flush=True)
+    return outcomes + parts
 
 
 def read_words() -> argparse.Namespace:
