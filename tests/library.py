@@ -29,27 +29,19 @@ import shutil
 import subprocess
 import sys
 import tempfile
-import threading
 import time
 import tomllib
 from collections.abc import Callable, Iterator
-from dataclasses import dataclass, field
+from dataclasses import dataclass
 
-from helpers import PATIENCE, SECONDS, TOP
+from helpers import PATIENCE, TOP
+from helpers.in_c import (C_FLAGS, HERE, INCLUDE, SANITIZERS, SMALL, Asked, Build, ForArm, builds, compiler, done, here, library, said_by, sanitized,
+                          sanitizing, small_files)
 from helpers.rows import all_runs, contents, difference, write
 from helpers.tries import Outcome, at_a_time, differs, told
 
-sys.path.insert(0, os.path.join(TOP, "tools", "package"))
-
-import library  # noqa: E402, the path is set above
-import native  # noqa: E402
-
-HERE = pathlib.Path(TOP, "tests", "library")
-INCLUDE = pathlib.Path(TOP, "library")
 CODES = pathlib.Path(TOP, "crates", "rim_calls", "src", "codes.rt")
 PAGES = (pathlib.Path(TOP, "docs", "LIBRARY.md"), INCLUDE / "README-c.md")
-C_FLAGS = ["-std=c11", "-D_GNU_SOURCE", "-Wall", "-Wextra", "-Werror", "-O1", "-g", "-pthread", f"-I{INCLUDE}"]
-SANITIZERS = ["-fsanitize=address,undefined", "-fno-sanitize-recover=undefined", "-fno-omit-frame-pointer"]
 REFUSING = ["-Wl,--wrap=malloc,--wrap=realloc,--wrap=free"]
 VALGRIND = ["valgrind", "-q", "--error-exitcode=99", "--leak-check=full", "--errors-for-leak-kinds=definite,indirect,possible"]
 OF_LAUNCH, OF_MANIFEST, OF_FILE = ("list", "trace", "map", "dtb"), ("measure", "audit", "check"), ("replay", "image", "fdt")
@@ -59,49 +51,6 @@ EXAMPLES = ["examples/vm/manifest.toml", "examples/kernel/manifest.toml", "examp
 IS_WRONG, NOT_READ = 200, 201
 # A run that takes the program longer is asked of the library for its length and its answer alone.
 LONG = 0.3
-
-
-@dataclass
-class Asked:
-    """What is asked here: the libraries, the program, what is built in which folder, and whether all is."""
-
-    folder: pathlib.Path
-    program: str
-    made: pathlib.Path
-    is_whole: bool
-    calls: pathlib.Path | None
-    only: str = ""
-    said: list[str] = field(default_factory=list)
-    built: set[str] = field(default_factory=set)
-    building: threading.Lock = field(default_factory=threading.Lock)
-
-    def not_asked(self, why: str):
-        line = f"library.py: not asked: {why}"
-        if line not in self.said:
-            self.said.append(line)
-            print(line, flush=True)
-
-    def archive(self, name: str) -> pathlib.Path:
-        return self.folder / f"librim-{name}.a"
-
-    def shared(self, name: str) -> pathlib.Path:
-        return self.folder / f"librim-{name}.so.0"
-
-
-def here(words: list[str], folder: str | pathlib.Path = TOP, **more) -> subprocess.CompletedProcess:
-    """A command that was run in a folder."""
-    return subprocess.run([str(word) for word in words], cwd=folder, capture_output=True, timeout=10 * SECONDS, check=False, **more)
-
-
-def said_by(ran: subprocess.CompletedProcess) -> str:
-    return (ran.stdout + ran.stderr).decode(errors="replace").strip()
-
-
-def done(words: list[str], **more) -> bytes:
-    ran = here(words, **more)
-    if ran.returncode:
-        raise ValueError(f"{words[0]} ends with {ran.returncode}: {said_by(ran)[-1500:]}")
-    return ran.stdout
 
 
 # ---- names and codes
@@ -167,109 +116,6 @@ def codes(_: Asked) -> list[str]:
     return [line for name in names for line in differs(name, in_header.get(name), in_crate.get(name))] + differs("their number", len(in_header) > 50, True)
 
 
-# ---- building
-
-
-def compiler() -> str:
-    return next((name for name in ("cc", "gcc", "clang") if shutil.which(name)), "")
-
-
-@functools.cache
-def sanitizing() -> str:
-    """A compiler that has what sanitizers need; nothing where none has."""
-    with tempfile.TemporaryDirectory() as folder:
-        source = pathlib.Path(folder, "empty.c")
-        source.write_text("int main(void) { return 0; }\n")
-        for name in ("clang", "gcc", "cc"):
-            words = [name, *SANITIZERS, str(source), "-o", f"{folder}/empty"]
-            if shutil.which(name) and not here(words).returncode and not here([f"{folder}/empty"]).returncode:
-                return name
-    return ""
-
-
-@functools.cache
-def is_wide() -> bool:
-    """Whether this processor is of x86-64-v3."""
-    try:
-        flags = re.search(r"^flags\s*:(.*)$", pathlib.Path("/proc/cpuinfo").read_text(encoding="utf-8"), re.M)
-    except OSError:
-        return False
-    return bool(flags) and {"avx2", "bmi1", "bmi2", "fma", "movbe", "f16c"} <= set(flags[1].split())
-
-
-@dataclass(frozen=True)
-class Build:
-    """A way to build the tests: its name, the compiler with its words, what is linked, and what starts a program."""
-
-    name: str
-    words: tuple[str, ...]
-    linked: tuple[str, ...]
-    start: tuple[str, ...] = ()
-    environment: tuple[tuple[str, str], ...] = ()
-
-    def build(self, asked: Asked, name: str, *more: str) -> str:
-        """A program of tests/library, which is built once."""
-        out = str(asked.made / f"{name}-{self.name}")
-        with asked.building:
-            if out not in asked.built:
-                self.make(name, out, *more)
-                asked.built.add(out)
-        return out
-
-    def make(self, name: str, out: str, *more: str):
-        done([*self.words, *C_FLAGS, str(HERE / f"{name}.c"), str(HERE / "given.c"), *self.linked, *more, "-o", out])
-
-    def run(self, program: str, *words: str, folder: str | pathlib.Path = TOP, **more) -> subprocess.CompletedProcess:
-        return here([*self.start, program, *words], folder, env=os.environ | dict(self.environment), **more)
-
-
-@dataclass(frozen=True)
-class ForArm(Build):
-    """The same for arm64, by the kit's compiler and linker."""
-
-    def make(self, name: str, out: str, *more: str):
-        headers = [word for path in native.ARM64_HEADERS for word in ("-isystem", path)]
-        objects = [f"{out}.{source}.o" for source in (name, "given")]
-        for source, to in zip((name, "given"), objects):
-            done([*self.words, "-nostdinc", *headers, *C_FLAGS, "-fPIC", "-c", str(HERE / f"{source}.c"), "-o", to])
-        linker = str(native.kit() / "toolchain/bin/ld.lld")
-        done([linker, "-m", native.ARM64.emulation, "-r", "-o", f"{out}.o", *objects, "--whole-archive", *self.linked])
-        native.link(native.TARGETS[2], pathlib.Path(f"{out}.o"), pathlib.Path(out))
-
-
-def shared_build(asked: Asked, name: str, cc: str) -> Build:
-    """Programs find the shared library by its name in a folder of its own."""
-    folder = asked.made / name
-    folder.mkdir()
-    (folder / library.SONAME).symlink_to(asked.shared(name).resolve())
-    (folder / "librim.so").symlink_to(library.SONAME)
-    return Build(f"shared-{name}", (cc,), (f"-L{folder}", "-lrim"), (), (("LD_LIBRARY_PATH", str(folder)),))
-
-
-def arm_build(asked: Asked) -> Build | None:
-    qemu, archive = shutil.which("qemu-aarch64"), asked.archive("aarch64")
-    want = native.wanting(native.TARGETS[2]) or ("" if qemu else "qemu-aarch64 is not installed: apt-get install qemu-user")
-    if want or not archive.is_file() or not shutil.which("rt"):
-        asked.not_asked(f"the library for arm64: {want or ('the kit is not here' if archive.is_file() else f'there is no {archive.name}')}")
-        return None
-    return ForArm("aarch64", (str(native.kit() / "toolchain/bin/clang"), f"--target={native.ARM64.triple}"), (str(archive),), (qemu,))
-
-
-def builds(asked: Asked) -> list[Build]:
-    """The ways to build here. The first is that which all is asked of."""
-    found: list[Build] = []
-    cc = compiler()
-    for name in ("x86_64-v2", "x86_64-v3"):
-        if not asked.archive(name).is_file() or not asked.shared(name).is_file():
-            asked.not_asked(f"there are no libraries for {name} in {asked.folder}")
-        elif name == "x86_64-v3" and not is_wide():
-            asked.not_asked("the libraries for x86_64-v3: this processor is of an earlier level")
-        else:
-            found += [Build(f"static-{name}", (cc,), (str(asked.archive(name)),)), shared_build(asked, name, cc)]
-    arm = arm_build(asked)
-    return found + ([arm] if arm else [])
-
-
 # ---- programs of tests/library
 
 
@@ -312,48 +158,8 @@ def header_in_cpp(asked: Asked, build: Build) -> list[str]:
 
 # ---- memory that is refused
 
-# A release of a kernel and a devicetree that is edited, and one of raw contents without.
-SMALL = {
-    "of-all-kinds.toml": """rim_manifest = 2
-file = [{ name = "k", path = "kernel" }, { name = "d", path = "tree" }, { name = "i", path = "initrd" }]
-[[launch]]
-name = "a"
-algo = "sha256"
-s2sz = 33
-ram = [[0x40000000, 0x40800000]]
-rec = [{}, { runnable = false }]
-rec_rule = "runnable"
-item = [{ name = "k", kind = "kernel", file = "k", at = 0x40200000 }, { name = "i", kind = "initrd", file = "i", at = 0x40500000 },
-  { name = "d", kind = "dtb", file = "d", at = 0x40600000, bootargs = "quiet", memory = true, initrd = true }]
-""",
-    "of-two.toml": """rim_manifest = 1
-file = [{ name = "i", path = "initrd" }]
-[[launch]]
-name = "a"
-algo = "sha512"
-s2sz = 33
-ram = [[0x40000000, 0x40200000]]
-item = [{ name = "i", kind = "raw", file = "i", at = 0x40000000 }]
-[[launch]]
-name = "b"
-algo = "sha256"
-s2sz = 33
-ram = [[0x40000000, 0x40001000]]
-item = [{ name = "i", kind = "raw", file = "i", at = 0x40000001 }]
-""",
-}
 # With too few of them nothing would be shown.
 LEAST_REQUESTS = 10
-
-
-def small_files(folder: pathlib.Path):
-    """Writes what is measured with little memory, and a listing of it."""
-    from helpers.files import image, tree
-
-    files = {name: text.encode() for name, text in SMALL.items()}
-    files |= {"kernel": image(1 << 20, length=3 * 4096), "tree": tree([(0x40000000, 0x40800000)], length=None), "initrd": b"initrd" * 999}
-    for name, data in files.items():
-        (folder / name).write_bytes(data)
 
 
 def calls_refused() -> Iterator[list[str]]:
@@ -460,22 +266,22 @@ def compare(caller: Caller, run: dict, folder: str) -> list[str] | None:
     code, answer = expected(ran, words.command)
     wrong = differs("the code", found.returncode, code) + is_like(found.stdout, answer, words.command)
     wrong += [found.stderr.decode(errors="replace").strip()] if found.stderr else []
-    return wrong + (of_report(caller, words.path, answer, folder) if words.command == "measure" and code < 2 and not words.flags and not once else [])
+    return wrong + (of_report(caller, words.path, answer, folder, given) if words.command == "measure" and code < 2 and not words.flags and not once else [])
 
 
-def of_report(caller: Caller, path: str, report: bytes, folder: str) -> list[str]:
+def of_report(caller: Caller, path: str, report: bytes, folder: str, given: bytes) -> list[str]:
     """The measurement of the first and of the last launch of a report, as rim_launch_rim has it, and the paths of the manifest's files."""
     lines = [line.split(" ") for line in report.decode().splitlines()[1:-1]]
     if path.startswith("/dev/"):
         return []
     wrong = []
     for name, algorithm, *value in [*lines[:1], *lines[1:][-1:]]:
-        found = caller.ends("rim", "--once", path, name, folder=folder)
+        found = caller.ends("rim", "--once", path, name, folder=folder, given=given)
         wanted = (codes_of_header()[name_of(value[0])], "") if algorithm == "refused" else (0, f"{'sha256 sha512'.split().index(algorithm)} {value[0]}\n")
         wrong += differs(f"the measurement of {name}", (found.returncode, found.stdout.decode()), wanted)
     with open(os.path.join(folder, path), "rb") as file:
         paths = "".join(each["path"] + "\0" for each in tomllib.load(file).get("file", []))
-    found = caller.ends("paths", "--once", path, folder=folder)
+    found = caller.ends("paths", "--once", path, folder=folder, given=given)
     return wrong + differs("the paths", (found.returncode, found.stdout.decode()), (0, paths))
 
 
@@ -532,16 +338,6 @@ def in_valgrind(asked: Asked, build: Build) -> list[str]:
         ran = checked.run(program, *words)
         wrong += [f"{' '.join(words)}: status {ran.returncode}: {ran.stderr.decode(errors='replace')[-800:]}"] * (ran.returncode > 1 or bool(ran.stderr))
     return wrong
-
-
-def sanitized(asked: Asked) -> Build:
-    """With sanitizers; library/rim.c has them too where the proved calls are there without it."""
-    if asked.calls and asked.calls.is_file():
-        linked = (str(INCLUDE / "rim.c"), str(asked.calls), str(library.memory_of(library.LIBRARIES[0], asked.made)))
-    else:
-        asked.not_asked("library/rim.c with sanitizers before the proved calls: there is no archive of these alone")
-        linked = (str(asked.archive("x86_64-v2")),)
-    return Build("sanitized", (sanitizing(), *SANITIZERS), linked)
 
 
 def by_sanitizers(asked: Asked, look: Callable[[Asked, Build], list[str]]) -> list[str]:

@@ -4,6 +4,7 @@ files      devicetrees and kernels
 guests     a guest of each hypervisor: its files and words, and programs that stand in for hypervisors
 folders    a folder with files, in which a script is started
 tries      what came of tries, as lines and as the last line of a test
+in_c       programs in C that are linked with the library
 rows       the files of cases/ and rows/, as runs of the program
 """
 import os

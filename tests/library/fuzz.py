@@ -16,8 +16,8 @@ import tempfile
 
 sys.path.insert(0, str(pathlib.Path(__file__).resolve().parents[1]))
 
-import library as tests  # noqa: E402, the path is set above
-from helpers import TOP  # noqa: E402
+from helpers import TOP  # noqa: E402, the path is set above
+from helpers.in_c import SMALL, Asked, sanitized, sanitizing, small_files  # noqa: E402
 
 MANIFESTS = ("examples/first/manifest.toml", "examples/kernel/manifest.toml", "examples/vm/manifest.toml")
 LAST = re.compile(r"(\d+) calls, (\d+) wrong: (\d+) answered, (\d+) refused")
@@ -36,9 +36,9 @@ def read_words() -> argparse.Namespace:
 def run(program: str, words: argparse.Namespace, folder: pathlib.Path) -> list[tuple[int, str]]:
     """The status and the last line of each of the programs, which run at a time."""
     (folder / "examples").symlink_to(pathlib.Path(TOP, "examples"))
-    tests.small_files(folder)
+    small_files(folder)
     each = [str(words.count // words.jobs + (number < words.count % words.jobs)) for number in range(words.jobs)]
-    manifests = [*MANIFESTS, *tests.SMALL]
+    manifests = [*MANIFESTS, *SMALL]
     running = [subprocess.Popen([program, str(words.seed + number), count, *manifests], cwd=folder, stdout=subprocess.PIPE, text=True)
                for number, count in enumerate(each)]
     return [((done.communicate()[0].strip().splitlines() or [""])[-1], done.returncode)[::-1] for done in running]
@@ -46,12 +46,12 @@ def run(program: str, words: argparse.Namespace, folder: pathlib.Path) -> list[t
 
 def main() -> int:
     words = read_words()
-    if not tests.sanitizing():
+    if not sanitizing():
         print("fuzz.py: no compiler here has the sanitizers", file=sys.stderr)
         return 2
     with tempfile.TemporaryDirectory() as made:
-        asked = tests.Asked(words.folder.resolve(), "", pathlib.Path(made), False, words.calls.resolve() if words.calls else None)
-        came = run(tests.sanitized(asked).build(asked, "fuzz"), words, pathlib.Path(made))
+        asked = Asked(words.folder.resolve(), "", pathlib.Path(made), False, words.calls.resolve() if words.calls else None)
+        came = run(sanitized(asked).build(asked, "fuzz"), words, pathlib.Path(made))
     found = [LAST.fullmatch(line) for _, line in came]
     if not all(found):
         print(*(f"fuzz.py: a program ends with {status}: {line}" for status, line in came), sep="\n", file=sys.stderr)
