@@ -70,8 +70,8 @@ def names_shared(asked: Asked, name: str) -> list[str]:
     found = names_of(asked.shared(name), "-D") - {f"{library.VERSION}@@{library.VERSION}", library.VERSION}
     said = done(["readelf", "-dW", str(asked.shared(name))]).decode()
     needed = re.findall(r"\((NEEDED|SONAME|RPATH|RUNPATH|TEXTREL|INIT|INIT_ARRAY)\).*?(?:\[(.*)\]|$)", said)
-    return (differs("its names", sorted(found), sorted(wanted)) + differs("what it needs", sorted(needed), [("NEEDED", "libc.so.6"), ("SONAME", library.SONAME)])
-            + differs("bound at the start", "BIND_NOW" in said, True))
+    wrong = differs("its names", sorted(found), sorted(wanted)) + differs("bound at the start", "BIND_NOW" in said, True)
+    return wrong + differs("what it needs", sorted(needed), [("NEEDED", "libc.so.6"), ("SONAME", library.SONAME)])
 
 
 def names_archived(asked: Asked, name: str) -> list[str]:

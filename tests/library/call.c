@@ -22,7 +22,8 @@ static void ask_short(const struct asked *asked, const struct given *given, size
     unsigned char *none;
     struct ended ended = ask_guarded(asked, given, room, &none);
     if (!is_same(&ended, first))
-        wrong("%s, room %zu: code %d and length %zu, and without room %d and %zu", asked->command, room, (int)ended.code, ended.length, (int)first->code, first->length);
+        wrong("%s, room %zu: code %d and length %zu, and without room %d and %zu", asked->command, room, (int)ended.code, ended.length, (int)first->code,
+              first->length);
     free(none);
 }
 

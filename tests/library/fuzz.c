@@ -42,7 +42,8 @@ static size_t below(size_t limit) {
 static const char *const parts[] = {
     "[", "]", "[[", "]]", "{", "}", "=", ",", ".", "\"", "'", "\"\"\"", "\n", "#", "\\u0000", "\\U0001F600", "\xff", "\xc3", "\xe2\x80\xae", "\t", "\r\n",
     "[[launch]]\n", "[[file]]\n", "[[launch.item]]\n", "[[launch.rec]]\n", "name = \"a\"\n", "path = \"gone\"\n", "algo = \"sha512\"\n", "algo = \"md5\"\n",
-    "s2sz = 48\n", "s2sz = 49\n", "ram = [[0x40000000, 0x40200000]]\n", "ram = []\n", "kind = \"raw\"\n", "kind = \"unknown\"\nsize = 4096\n", "kind = \"dtb\"\n",
+    "s2sz = 48\n", "s2sz = 49\n", "ram = [[0x40000000, 0x40200000]]\n", "ram = []\n",
+    "kind = \"raw\"\n", "kind = \"unknown\"\nsize = 4096\n", "kind = \"dtb\"\n",
     "at = 0x40000000\n", "measured = false\n", "bootargs = \"quiet\"\n", "memory = true\n", "initrd = true\n", "rec = [{}, { runnable = false }]\n",
     "rec_rule = \"runnable\"\n", "rec_rule = \"all\"\n", "rim_manifest = 1\n", "rim_manifest = 2\n", "steps = [\"ram 0\"]\n", "steps = [\"recs\", \"items\"]\n",
     "pool_count = 1\n", "pool_base = 65536\n", "num_aux = 16\n", "block_level = 3\n", "sve = true\n", "pmu = true\n", "rpv = \"00\"\n",
@@ -144,7 +145,8 @@ static bool call(long number, const struct given *given) {
     struct asked asked = asks[below(ASKS)];
     if (asked.launch != NULL)
         asked.launch = launch_of(given);
-    struct given changed = {{given->subject.path, given->subject.path_length, text, length}, given->files, given->count};
+    const void *manifest = fenced(text, length);
+    struct given changed = {{given->subject.path, given->subject.path_length, manifest, length}, given->files, given->count};
     unsigned char *answer;
     int before = wrong_count;
     time_t begun = time(NULL);
@@ -160,6 +162,7 @@ static bool call(long number, const struct given *given) {
         wrong("%s: code %d", asked.command, (int)ended.code);
     if (time(NULL) - begun > SLOW)
         fprintf(stderr, "call %ld, %s: it took %ld s\n", number, asked.command, (long)(time(NULL) - begun));
+    unfenced(manifest, length);
     if (wrong_count > before)
         fprintf(stderr, "  in call %ld\n", number);
     return is_answer(ended.code);

@@ -33,24 +33,61 @@ static void *taken(size_t size) {
 
 /* ---- files */
 
-enum { FILE_LIMIT = 256 << 20 };
+enum { FILE_LIMIT = 256 << 20, FENCED = 4 << 20 };
+
+static size_t pages_of(size_t length) {
+    size_t page = (size_t)sysconf(_SC_PAGESIZE);
+    return (length + page - 1) / page * page;
+}
+
+static void *mapped(size_t length) {
+    void *at = mmap(NULL, length, PROT_READ | PROT_WRITE, MAP_PRIVATE | MAP_ANONYMOUS | MAP_NORESERVE, -1, 0);
+    if (at == MAP_FAILED) {
+        fputs("no memory for the test\n", stderr);
+        exit(70);
+    }
+    return at;
+}
+
+void *fenced(const void *bytes, size_t length) {
+    size_t pages = pages_of(length), fence = pages_of(1);
+    unsigned char *block = mapped(pages + fence), *at = block + pages - length;
+    if (length > 0)
+        memcpy(at, bytes, length);
+    if (mprotect(block, pages + fence, PROT_READ) != 0 || mprotect(block + pages, fence, PROT_NONE) != 0)
+        wrong("there is no fence after %zu bytes", length);
+    return at;
+}
+
+void unfenced(const void *at, size_t length) {
+    size_t pages = pages_of(length);
+    munmap((unsigned char *)at + length - pages, pages + pages_of(1));
+}
 
 static bool read_all(int file, rim_file *to) {
-    unsigned char *bytes = taken((size_t)FILE_LIMIT + 1);
+    unsigned char *bytes = mapped((size_t)FILE_LIMIT + 1);
     size_t length = 0;
     ssize_t count = 1;
     while (length <= FILE_LIMIT && (count = read(file, bytes + length, (size_t)FILE_LIMIT + 1 - length)) > 0)
         length += (size_t)count;
-    to->bytes = realloc(bytes, length == 0 ? 1 : length);
+    to->bytes = bytes;
     to->length = length;
-    return count >= 0 && to->bytes != NULL;
+    return count >= 0;
 }
 
 static bool map_all(int file, size_t size, rim_file *to) {
-    void *bytes = mmap(NULL, size, PROT_READ, MAP_PRIVATE, file, 0);
-    to->bytes = bytes;
+    to->bytes = mmap(NULL, size, PROT_READ, MAP_PRIVATE, file, 0);
     to->length = size;
-    return bytes != MAP_FAILED;
+    return to->bytes != MAP_FAILED;
+}
+
+/* What is not large gets a fence. */
+static void fence(rim_file *file, size_t of_pages) {
+    if (file->length > FENCED)
+        return;
+    const void *bytes = fenced(file->bytes, file->length);
+    munmap((void *)file->bytes, of_pages);
+    file->bytes = bytes;
 }
 
 bool read_file(const char *path, rim_file *to) {
@@ -58,9 +95,12 @@ bool read_file(const char *path, rim_file *to) {
     int file = open(path, O_RDONLY | O_CLOEXEC);
     if (file < 0)
         return false;
-    bool is_read = fstat(file, &said) == 0 && (S_ISREG(said.st_mode) && said.st_size > 0 ? map_all(file, (size_t)said.st_size, to) : read_all(file, to));
+    bool is_found = fstat(file, &said) == 0, is_mapped = is_found && S_ISREG(said.st_mode) && said.st_size > 0;
+    bool is_read = is_found && (is_mapped ? map_all(file, (size_t)said.st_size, to) : read_all(file, to));
     close(file);
-    to->path = path;
+    if (is_read)
+        fence(to, is_mapped ? to->length : (size_t)FILE_LIMIT + 1);
+    to->path = fenced(path, strlen(path));
     to->path_length = strlen(path);
     return is_read;
 }
@@ -73,10 +113,12 @@ static size_t count_paths(const char *paths, size_t length) {
 }
 
 static void read_named(const char *paths, size_t length, struct given *to) {
-    to->files = taken((count_paths(paths, length) + 1) * sizeof *to->files);
+    rim_file *files = taken((count_paths(paths, length) + 1) * sizeof *files);
     for (size_t at = 0; at < length; at += strlen(paths + at) + 1)
-        if (read_file(paths + at, &to->files[to->count]))
+        if (read_file(paths + at, &files[to->count]))
             to->count++;
+    to->files = fenced(files, to->count * sizeof *files);
+    free(files);
 }
 
 bool read_given(const char *path, bool is_manifest, struct given *to) {
@@ -91,6 +133,7 @@ bool read_given(const char *path, bool is_manifest, struct given *to) {
         wrong("the paths of %s: no answer in the room that was said", path);
     else
         read_named(paths, length, to);
+    free(paths);
     return true;
 }
 

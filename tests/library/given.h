@@ -10,7 +10,7 @@
 /* What a call is about: a manifest, or another file; and the files that a manifest names, as far as they can be read. */
 struct given {
     rim_file subject;
-    rim_file *files;
+    const rim_file *files;
     size_t count;
 };
 
@@ -33,10 +33,16 @@ struct ended {
 #define UNSAID ((size_t)0x5ca1ab1e)
 #define NO_ALGORITHM ((rim_algorithm)2)
 
-/* Reads a file; false where it cannot be read. A file of the disk is mapped; of anything else no more than a byte over the library's limit is read. */
+/* A copy of some bytes that nobody can write to, and after which nothing can be read: a library that does ends the program. It stays until the
+   program ends, or until it is taken away. */
+void *fenced(const void *bytes, size_t length);
+void unfenced(const void *at, size_t length);
+
+/* Reads a file; false where it cannot be read. Of what is no file of the disk no more than a byte over the library's limit is read. Its path and, where
+   it is not large, its bytes are fenced. */
 bool read_file(const char *path, rim_file *to);
 
-/* Reads a file, and what it names where it is a manifest that is no fault. A file that cannot be read is left out. */
+/* Reads a file, and what it names where it is a manifest that is no fault. A file that cannot be read is left out. The list of files is fenced too. */
 bool read_given(const char *path, bool is_manifest, struct given *to);
 
 /* Whether a command is about a manifest. */

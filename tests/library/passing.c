@@ -188,7 +188,8 @@ static void takes_nothing(const struct call *call) {
     got = (struct got){0};
     look(call->name, "nothing is taken", call->call(&w) == RIM_OK && got.name != NULL);
     look(call->name, "no room", got.out != NULL && got.room == 0);
-    look(call->name, "a file of nothing", !(call->has & SUBJECT) || (got.subject.path != NULL && got.subject.bytes != NULL && got.subject.path_length + got.subject.length == 0));
+    look(call->name, "a file of nothing", !(call->has & SUBJECT) || (got.subject.path != NULL && got.subject.bytes != NULL));
+    look(call->name, "of no bytes", got.subject.path_length + got.subject.length == 0);
     look(call->name, "no files", !(call->has & OTHERS) || (got.files != NULL && got.count == 0));
     look(call->name, "no name", !(call->has & NAMED) || (got.launch != NULL && got.launch_length == 0));
     look(call->name, "the caller's file stays", subject.path == NULL && subject.bytes == NULL);

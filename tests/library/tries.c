@@ -212,7 +212,6 @@ int main(int count, char **words) {
     too_large(&given);
     what_is_no_text(&given, words[3]);
     null_pointers(&given, words[3]);
-    free(given.files);
     printf("%d tried, %d wrong\n", tried, wrong_count);
     return wrong_count > 0;
 }

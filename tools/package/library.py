@@ -124,8 +124,8 @@ def calls_of(library: Library, made: pathlib.Path | None, folder: pathlib.Path) 
 def compile_c(library: Library, source: pathlib.Path, words: tuple[str, ...], out: pathlib.Path) -> pathlib.Path:
     """Compiles a file of C for a processor. No path gets into the object."""
     march = [f"-march={library.march}"] if library.march else []
-    done([str(kit() / "toolchain/bin/clang"), f"--target={library.system.triple}", *march, "-nostdinc", *words, "-std=c11", "-O2", "-fPIC", "-ffunction-sections",
-          "-c", source.name, "-o", str(out)], source.name, source.parent)
+    done([str(kit() / "toolchain/bin/clang"), f"--target={library.system.triple}", *march, "-nostdinc", *words, "-std=c11", "-O2", "-fPIC",
+          "-ffunction-sections", "-c", source.name, "-o", str(out)], source.name, source.parent)
     return out
 
 
@@ -165,9 +165,9 @@ def write_shared(library: Library, joined: pathlib.Path, out: pathlib.Path):
     names = joined.with_suffix(".map")
     names.write_text(f"{VERSION} {{\n  global:\n" + "".join(f"    {name};\n" for name in declared(text_of(HEADER))) + "  local:\n    *;\n};\n")
     made = joined.with_suffix(".so")
-    done([str(kit() / "toolchain/bin/ld.lld"), "-m", library.system.emulation, "-shared", "-soname", SONAME, "--version-script", str(names), "-z", "relro", "-z", "now",
-          "-z", "text", "-z", "noexecstack", "--hash-style=gnu", "--build-id=none", "--eh-frame-hdr", "--gc-sections", "--no-undefined", "-o", str(made), str(joined),
-          library.system.gcc.path("libgcc.a"), library.libc], library.path)
+    done([str(kit() / "toolchain/bin/ld.lld"), "-m", library.system.emulation, "-shared", "-soname", SONAME, "--version-script", str(names),
+          "-z", "relro", "-z", "now", "-z", "text", "-z", "noexecstack", "--hash-style=gnu", "--build-id=none", "--eh-frame-hdr", "--gc-sections",
+          "--no-undefined", "-o", str(made), str(joined), library.system.gcc.path("libgcc.a"), library.libc], library.path)
     out.write_bytes(native.stripped(made))
     out.chmod(0o644)
 
