@@ -6,7 +6,8 @@
 The second time all that tar, gzip, xz, dpkg-deb and git take from the environment and from a user's configuration is set, new files may be
 written by everybody, and the folder for temporary files hands its group on. The bytes have to be the same, and the modes plain. Where dist/
 is not of the sources of the last commit, or dpkg-deb is not installed, nothing is asked. Each link of the documents leads somewhere in the
-archive. Where dist/ has the library for C, its packages have its files, and say of each of its names since which version it is there.
+archive. Where dist/ has the library for C, its packages have its files, and say of each of its names since which version it is there. A program that is
+linked with what they have says the library's version; where gcc or pkg-config is not installed, that is not asked.
 
 The last line is 'N passed, M failed'.
 """
@@ -106,6 +107,36 @@ def of_library(here: str, path: str) -> list[str]:
     return [f"{os.path.basename(path)}: {line}" for line in wrong]
 
 
+SAYS_VERSION = """#include <rim.h>
+#include <stdio.h>
+int main(void) {
+    char text[100];
+    size_t length = 0;
+    rim_code code = rim_version(text, sizeof text, &length);
+    printf("%.*s", (int)length, text);
+    return (int)code;
+}
+"""
+
+
+def linked(here: str, version: str) -> list[str]:
+    """What is wrong with a program that is linked with what the packages for amd64 have, by the words of pkg-config."""
+    tree = pathlib.Path(here, "installed")
+    for name in LIBRARY:
+        subprocess.run(["dpkg-deb", "--extract", os.path.join(here, "plain", f"{name}_{version}_amd64.deb"), tree], check=True)
+    folder, source, program = tree / "usr/lib" / MULTIARCH["amd64"], tree / "version.c", tree / "version"
+    source.write_text(SAYS_VERSION)
+    environment = os.environ | {"PKG_CONFIG_PATH": str(folder / "pkgconfig"), "PKG_CONFIG_SYSROOT_DIR": str(tree), "LD_LIBRARY_PATH": str(folder)}
+    asked = subprocess.run(["pkg-config", "--cflags", "--libs", "rim"], stdout=subprocess.PIPE, text=True, check=True, env=environment)
+    wrong = []
+    for words in (asked.stdout.split(), [f"-I{tree}/usr/include", str(folder / "librim.a")]):
+        subprocess.run(["gcc", "-std=c11", "-Wall", "-Wextra", "-Werror", source, *words, "-o", program], check=True)
+        said = subprocess.run([program], stdout=subprocess.PIPE, text=True, check=False, env=environment)
+        is_said = said.returncode == 0 and said.stdout.split(" ")[0] == version
+        wrong += [] if is_said else [f"a program linked by {words}: status {said.returncode}, {said.stdout!r}"]
+    return wrong
+
+
 def packages(here: str) -> list[str] | None:
     """What is wrong; None where dist/ has no programs of the sources."""
     with open(os.path.join(here, "attributes"), "w", encoding="utf-8") as file:
@@ -137,6 +168,8 @@ def packages(here: str) -> list[str] | None:
             folders = {"outside", "vmm", "matcher", "comparer"} - {os.path.basename(each.name) for each in archive if each.isdir()}
         wrong += [f"{name}: there is no {each}" for each in folders]
     wrong += [line for name in plain[2] if name.endswith(".gz") for line in broken_links(here, os.path.join(here, "plain", name))]
+    if in_dist("amd64") and shutil.which("gcc") and shutil.which("pkg-config"):
+        wrong += linked(here, version)
     return wrong + [f"{each} is left" for each in os.listdir(temporary)]
 
 

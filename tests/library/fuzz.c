@@ -47,7 +47,8 @@ static const char *const parts[] = {
     "at = 0x40000000\n", "measured = false\n", "bootargs = \"quiet\"\n", "memory = true\n", "initrd = true\n", "rec = [{}, { runnable = false }]\n",
     "rec_rule = \"runnable\"\n", "rec_rule = \"all\"\n", "rim_manifest = 1\n", "rim_manifest = 2\n", "steps = [\"ram 0\"]\n", "steps = [\"recs\", \"items\"]\n",
     "pool_count = 1\n", "pool_base = 65536\n", "num_aux = 16\n", "block_level = 3\n", "sve = true\n", "pmu = true\n", "rpv = \"00\"\n",
-    "0", "1", "-1", "4096", "0x40000000", "0x8000000000000000", "9223372036854775807", "18446744073709551616", "1e400", "nan", "true", "1979-05-27", "0o7", "0b1",
+    "0", "1", "-1", "4096", "0x40000000", "0x8000000000000000", "9223372036854775807", "18446744073709551616", "1e400", "nan", "true",
+    "1979-05-27", "0o7", "0b1",
 };
 enum { PARTS = sizeof parts / sizeof parts[0] };
 
@@ -137,7 +138,8 @@ static const char *launch_of(const struct given *given) {
 }
 
 static bool is_code(rim_code code) {
-    return code != RIM_NULL && code != RIM_NO_MEMORY && code != RIM_NEVER && (code <= RIM_TOO_MANY_PAGES || (code >= RIM_SYNTAX && code <= RIM_REC_NOT_RUNNABLE));
+    bool is_known = code <= RIM_TOO_MANY_PAGES || (code >= RIM_SYNTAX && code <= RIM_REC_NOT_RUNNABLE);
+    return is_known && code != RIM_NULL && code != RIM_NO_MEMORY && code != RIM_NEVER;
 }
 
 /* Makes a call without room, and one with it where there is an answer. Whether there is. */
