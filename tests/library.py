@@ -388,14 +388,24 @@ def pkg_config(asked: Asked) -> list[str]:
 # ---- all of it
 
 
-def named_parts(asked: Asked, builds_here: list[Build]) -> Iterator[tuple[str, Callable[[], list[str]]]]:
-    """What is asked beside the cases."""
+Part = tuple[str, Callable[[], list[str]]]
+
+
+def plain_parts(asked: Asked) -> Iterator[Part]:
+    """What needs no library."""
     yield "the codes", lambda: codes(asked)
+    if compiler():
+        yield "what is passed on", lambda: passing(asked)
+    else:
+        asked.not_asked("there is no C compiler")
+
+
+def named_parts(asked: Asked, builds_here: list[Build]) -> Iterator[Part]:
+    """What is asked beside the cases."""
     for name in ("x86_64-v2", "x86_64-v3", "aarch64"):
         if asked.archive(name).is_file() and asked.shared(name).is_file() and shutil.which("nm"):
             yield f"the names of {name}.so.0", functools.partial(names_shared, asked, name)
             yield f"the names of {name}.a", functools.partial(names_archived, asked, name)
-    yield "what is passed on", lambda: passing(asked)
     for build in builds_here:
         yield f"tries, {build.name}", functools.partial(tries, asked, build)
         yield f"threads, {build.name}", functools.partial(threads, asked, build)
@@ -412,7 +422,7 @@ def named_parts(asked: Asked, builds_here: list[Build]) -> Iterator[tuple[str, C
         asked.not_asked("pkg-config is not installed")
 
 
-def checked_parts(asked: Asked, first: Build) -> Iterator[tuple[str, Callable[[], list[str]]]]:
+def checked_parts(asked: Asked, first: Build) -> Iterator[Part]:
     """What valgrind and the sanitizers are asked."""
     if shutil.which("valgrind"):
         yield "valgrind", lambda: in_valgrind(asked, first)
@@ -426,13 +436,14 @@ def checked_parts(asked: Asked, first: Build) -> Iterator[tuple[str, Callable[[]
 
 
 def all_of_it(asked: Asked) -> list[Outcome]:
-    builds_here = builds(asked)
-    if not builds_here or isinstance(builds_here[0], ForArm):
-        return []
-    outcomes = list(cases(asked, builds_here))
-    parts = at_a_time([*named_parts(asked, builds_here), *checked_parts(asked, builds_here[0])])
-    print(*(f"{name}: {'WRONG' if wrong else 'as it should be'}" for name, wrong in parts), sep="\n", flush=True)
-    return outcomes + parts
+    builds_here = builds(asked) if compiler() else []
+    parts, outcomes = list(plain_parts(asked)), list[Outcome]()
+    if builds_here and not isinstance(builds_here[0], ForArm):
+        outcomes = list(cases(asked, builds_here))
+        parts += [*named_parts(asked, builds_here), *checked_parts(asked, builds_here[0])]
+    came = at_a_time(parts)
+    print(*(f"{name}: {'WRONG' if wrong else 'as it should be'}" for name, wrong in came), sep="\n", flush=True)
+    return outcomes + came
 
 
 def read_words() -> argparse.Namespace:
@@ -450,15 +461,8 @@ def main() -> int:
     program = os.path.abspath(words.program or words.folder / "rim-x86_64-v2")
     if not os.path.exists(program):
         raise SystemExit(f"{program} is not built")
-    if not compiler():
-        print("library.py: not asked: there is no C compiler\n0 passed, 0 failed")
-        return 0
     with tempfile.TemporaryDirectory() as made:
-        outcomes = all_of_it(Asked(words.folder.resolve(), program, pathlib.Path(made), words.whole, words.calls.resolve(), words.only))
-    if not outcomes:
-        print("0 passed, 0 failed")
-        return 0
-    return told(outcomes)
+        return told(all_of_it(Asked(words.folder.resolve(), program, pathlib.Path(made), words.whole, words.calls.resolve(), words.only)))
 
 
 if __name__ == "__main__":
