@@ -118,7 +118,9 @@ class Lent:
 
     def __init__(self, files: Mapping[str, Union[str, Bytes]]) -> None:
         self.kept: list[object] = []
-        self._as_parameter_ = (File * len(files))(*(File(*self.lend(encoded(path)), *self.lend(data)) for path, data in files.items()))
+        array = (File * len(files))(*(File(*self.lend(encoded(path)), *self.lend(data)) for path, data in files.items()))
+        self.kept.append(array)
+        self._as_parameter_ = ctypes.cast(array, ctypes.POINTER(File))
 
     def lend(self, data: Union[str, Bytes]) -> tuple[int, int]:
         """Where bytes are, and how many."""
