@@ -235,11 +235,11 @@ def bytes_like() -> list[str]:
     manifests = [KERNEL.decode(), bytearray(KERNEL), memoryview(KERNEL), mapped(KERNEL)]
     wrong += [line for each in manifests for line in differs(f"a manifest: {type(each).__name__}", rim.measure(each, FILES).text, expected)]
     for data in ("text", 1, None):
-        try:
-            rim.image(data)
-            wrong += [] if isinstance(data, str) else [f"{data!r} is taken"]
-        except (TypeError, rim.KernelShort):
-            pass
+        for ask in (partial(rim.image, data), partial(rim.measure, KERNEL, {"examples/vm/Image": data})):
+            try:
+                wrong.append(f"{data!r} is taken as bytes: {ask()!r}")
+            except TypeError:
+                pass
     return wrong
 
 
@@ -284,7 +284,7 @@ def no_text() -> list[str]:
               for line in differs(f"{call.__name__} {path!r}", error_of(lambda call=call, path=path: call(KERNEL, FILES, path=path)), "no-text")]
     wrong += differs("paths", error_of(lambda: rim.manifest_paths(b"\xff")), "syntax")
     found = rim.check(KERNEL + b"# \xff", FILES, path="m")
-    return wrong + differs("check", (found.status, bool(found), len(found.faults), found.faults[0].startswith("m:12:")), (3, False, 1, True))
+    return wrong + differs("check", (found.status, bool(found), len(found.faults), found.faults[0].startswith("m:13:3: syntax: ")), (3, False, 1, True))
 
 
 def missing() -> list[str]:

@@ -35,14 +35,19 @@ MOST = 256 << 20
 # ---- how calls are made
 
 
-def of_file(call: str, data: Text, path: str = "file") -> tuple[int, bytes]:
-    """What a call answers of one file."""
-    return native.answer(call, Lent({path: data}))
+def as_bytes(text: Text) -> Bytes:
+    """The bytes of what may be a text."""
+    return encoded(text) if isinstance(text, str) else text
+
+
+def of_file(call: str, data: Bytes) -> tuple[int, bytes]:
+    """What a call answers of one file. Its path is in no answer."""
+    return native.answer(call, Lent({"file": data}))
 
 
 def of_manifest(call: str, manifest: Text, files: Files, path: str, *words: object) -> tuple[int, bytes]:
     """What a call answers of a manifest and its files. What `rim check` has of a manifest's fault is in the error."""
-    subject, others = Lent({path: manifest}), Lent(files)
+    subject, others = Lent({path: as_bytes(manifest)}), Lent(files)
     try:
         return native.answer(call, subject, others, len(files), *words)
     except ManifestError as why:
@@ -86,7 +91,7 @@ def audit(manifest: Text, files: Files = NO_FILES, *, path: str = PATH) -> Audit
 
 def check_json(manifest: Text, files: Files = NO_FILES, *, path: str = PATH, quiet: bool = False) -> str:
     """What `rim check --json` prints: `faults`, `warnings`, `status`, `version`. Warnings are left out where `quiet`."""
-    subject, others = Lent({path: manifest}), Lent(files)
+    subject, others = Lent({path: as_bytes(manifest)}), Lent(files)
     return native.answer("rim_check", subject, others, len(files), int(quiet), JSON)[1].decode()
 
 
@@ -99,7 +104,7 @@ def check(manifest: Text, files: Files = NO_FILES, *, path: str = PATH, quiet: b
 def manifest_paths(manifest: Text) -> list[str]:
     """The paths of the files that the manifest names, in its order: those that `files` has to have."""
     try:
-        return [each.decode() for each in of_file("rim_manifest_paths", manifest)[1].split(b"\0")[:-1]]
+        return [each.decode() for each in of_file("rim_manifest_paths", as_bytes(manifest))[1].split(b"\0")[:-1]]
     except ManifestError as why:
         raise type(why)(*check(manifest, quiet=True).faults) from None
 
@@ -146,7 +151,7 @@ def dtb(manifest: Text, files: Files, launch: str, *, path: str = PATH) -> bytes
 
 def replay(listing: Text) -> Replay:
     """Whether a listing is what it says, as `rim replay` prints it. What is no listing is an answer too, and is not raised."""
-    code, out = of_file("rim_replay", listing)
+    code, out = of_file("rim_replay", as_bytes(listing))
     return Replay(out.decode().rstrip("\n"), code == OK)
 
 

@@ -116,15 +116,14 @@ def encoded(text: str) -> bytes:
 class Lent:
     """Files in memory, as a word of `answer`. What it lends is kept as long as it is."""
 
-    def __init__(self, files: Mapping[str, Union[str, Bytes]]) -> None:
+    def __init__(self, files: Mapping[str, Bytes]) -> None:
         self.kept: list[object] = []
         array = (File * len(files))(*(File(*self.lend(encoded(path)), *self.lend(data)) for path, data in files.items()))
         self.kept.append(array)
         self._as_parameter_ = ctypes.cast(array, ctypes.POINTER(File))
 
-    def lend(self, data: Union[str, Bytes]) -> tuple[int, int]:
-        """Where bytes are, and how many."""
-        data = encoded(data) if isinstance(data, str) else data
+    def lend(self, data: Bytes) -> tuple[int, int]:
+        """Where bytes are, and how many. Where there are none it is no null pointer."""
         if not isinstance(data, bytes):
             view = memoryview(data)
             if view.nbytes and view.c_contiguous and not view.readonly:
