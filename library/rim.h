@@ -44,7 +44,7 @@ typedef enum rim_code {
     RIM_NO_MEMORY = 4,
     /* The answer has more bytes than `room`. */
     RIM_ROOM = 5,
-    /* The path of the manifest, or a launch's name, is no UTF-8. */
+    /* The path of the file that is asked about, as of the manifest, or a launch's name, is no UTF-8. */
     RIM_NO_TEXT = 6,
     /* The manifest names a file that is not among those that were given. */
     RIM_NO_FILE = 7,
@@ -115,7 +115,7 @@ typedef enum rim_algorithm { RIM_SHA256 = 0, RIM_SHA512 = 1 } rim_algorithm;
 /* ---- of a whole manifest */
 
 /* The report of all launches, as `rim measure` prints it. RIM_REFUSED where some launch is refused. Of `files` each that the manifest names is
-   needed, in any order; of files of one path the first counts, and others are not read. */
+   needed, in any order; of files of one path the first counts, and others are not read. A file at the manifest's own path is the manifest. */
 rim_code rim_measure(const rim_file *manifest, const rim_file *files, size_t count, rim_format format, void *out, size_t room, size_t *length);
 
 /* The report that the monitor's own commands lead to, launch by launch, as `rim audit` prints it. */
@@ -125,7 +125,7 @@ rim_code rim_audit(const rim_file *manifest, const rim_file *files, size_t count
    RIM_FAULTY where a report cannot be made. Warnings are left out where `quiet` is not 0. */
 rim_code rim_check(const rim_file *manifest, const rim_file *files, size_t count, int quiet, rim_format format, void *out, size_t room, size_t *length);
 
-/* The paths of the files that the manifest names, in its order, each with a zero byte after it. */
+/* The paths of the files that the manifest names, in its order, each with a zero byte after it. (A path that has a zero byte reads as two.) */
 rim_code rim_manifest_paths(const rim_file *manifest, void *out, size_t room, size_t *length);
 
 /* ---- of one launch of a manifest, by its name */

@@ -276,6 +276,19 @@ def odd_names() -> list[str]:
     return wrong
 
 
+def itself() -> list[str]:
+    """A file at the manifest's own path is the manifest, and of another path it is what is given."""
+    wrong = []
+    for path, other in (("manifest.toml", KERNEL), ("m", b"other")):
+        made = KERNEL.replace(b'"examples/vm/Image"', f'"{path}"'.encode()).replace(b'kind = "kernel"', b'kind = "raw"').replace(b"rec = [{}]", b"rec = [{pc = 0}]")
+        with tempfile.TemporaryDirectory() as folder:
+            write(folder, {"m": other, "manifest.toml": made})
+            manifest, files = reference.read_manifest("manifest.toml", folder)
+        expected = f"sha256 {reference.measure(manifest['launch'][0], files, set())[0]}"
+        wrong += differs(f"a file at {path}", str(rim.launch_rim(made, {path: b"other"}, "vm")), expected)
+    return wrong
+
+
 def no_text() -> list[str]:
     """What is no UTF-8 is said."""
     calls = (rim.measure, rim.measure_json, rim.audit)
@@ -536,7 +549,7 @@ def main(words: list[str]) -> int:
     if not os.path.isfile(native.where()):
         raise SystemExit(f"{native.where()} is not built")
     left_out()
-    looks = [("codes", codes), ("groups", groups), ("bytes of many kinds", bytes_like), ("empty files", empty), ("odd names", odd_names), ("no UTF-8", no_text),
+    looks = [("codes", codes), ("groups", groups), ("bytes of many kinds", bytes_like), ("empty files", empty), ("odd names", odd_names), ("the manifest as a file", itself), ("no UTF-8", no_text),
              ("missing files", missing), ("values", values), ("room", room), ("threads", threads), ("which library", found_library), ("the wheel", wheel),
              ("older versions of Python", older_versions), *([("types", types)] if mypy() else []), *((path, partial(of_document, path)) for path in DOCUMENTS)]
     return told([(name, tried(look)) for name, look in looks] + at_a_time((run["name"], partial(of_run, run)) for run in runs()))

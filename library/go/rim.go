@@ -62,7 +62,7 @@ func (lent *memory) put(to *C.rim_file, path string, bytes []byte) {
 func (lent *memory) files(manifest []byte, files map[string][]byte) (*C.rim_file, *C.rim_file) {
 	first := (*C.rim_file)(lent.keep(C.calloc(C.size_t(len(files)+1), C.sizeof_rim_file)))
 	all := unsafe.Slice(first, len(files)+1)
-	lent.put(&all[0], "manifest.toml", manifest)
+	lent.put(&all[0], "", manifest)
 	at := 1
 	for path, bytes := range files {
 		lent.put(&all[at], path, bytes)

@@ -2,7 +2,8 @@
 
 What they share:
 
-- `manifest` is a manifest's text, or its bytes. `path` is the path by which its faults and a report as JSON call it: no file is opened.
+- `manifest` is a manifest's text, or its bytes. `path` is the path by which its faults and a report as JSON call it: no file is opened. A file
+  that the manifest names by this path is the manifest itself, whatever `files` has.
 - `files` has the bytes of each file that the manifest names, by its path as the manifest writes it. More may be there; what is no file of the
   manifest is not read. A file has at most 256 MiB.
 - `launch` is the name of a launch.

@@ -10,6 +10,7 @@
 //! What calls share:
 //!
 //! - `manifest` is a manifest's bytes. Where there is a `path`, it is the one by which faults and a report as JSON call the manifest: no file is opened.
+//!   A file that the manifest names by that path is the manifest itself.
 //! - `files` has the bytes of each file that the manifest names, with its path as the manifest writes it, in any order. Of files of one path the first
 //!   counts; what is no file of the manifest is not read. A file has at most 256 MiB.
 //! - Any number of threads may be in calls at a time.
@@ -28,8 +29,8 @@ use native::{answer, Answer, Ask};
 /// Files in memory, each with its path as the manifest writes it.
 pub type Files<'a> = &'a [(&'a str, &'a [u8])];
 
-/// The path of a manifest where its answer has none.
-const PATH: &str = "manifest.toml";
+/// The path of a manifest, or of another file, where its answer has none. No manifest names a file by it.
+const PATH: &str = "";
 
 fn text_of(bytes: Vec<u8>) -> Result<String, Error> {
     String::from_utf8(bytes).map_err(|_| Error::Unknown(RIM_OK))
