@@ -59,6 +59,8 @@ def kept(case: str) -> str:
 VM, KERNEL = (data_of("examples", name, "manifest.toml") for name in ("vm", "kernel"))
 FILES = {f"examples/vm/{name}": data_of("examples", "vm", name) for name in ("Image", "initrd.img", "virt.dtb")}
 IMAGE = FILES["examples/vm/Image"]
+# The example of a kernel, whose file may be anything.
+RAW = KERNEL.replace(b'kind = "kernel"', b'kind = "raw"').replace(b"rec = [{}]", b"rec = [{pc = 0}]")
 
 
 def error_of(call: Callable[[], object]) -> str:
@@ -245,9 +247,8 @@ def bytes_like() -> list[str]:
 
 def empty() -> list[str]:
     """What is empty is no null pointer."""
-    made = KERNEL.replace(b'kind = "kernel"', b'kind = "raw"').replace(b"rec = [{}]", b"rec = [{pc = 0}]")
     wrong = [line for data in (b"", bytearray(), memoryview(b""), memoryview(bytearray()))
-             for line in differs("an empty file", rim.measure(made, {"examples/vm/Image": data}).is_refused, False)]
+             for line in differs("an empty file", rim.measure(RAW, {"examples/vm/Image": data}).is_refused, False)]
     wrong += differs("an empty kernel", error_of(lambda: rim.launch_rim(KERNEL, {"examples/vm/Image": b""}, "vm")), "kernel-short")
     wrong += differs("an empty manifest", error_of(lambda: rim.measure("")), "version")
     wrong += differs("an empty Image", error_of(lambda: rim.image(b"")), "kernel-short")
@@ -280,7 +281,7 @@ def itself() -> list[str]:
     """A file at the manifest's own path is the manifest, and of another path it is what is given."""
     wrong = []
     for path, other in (("manifest.toml", KERNEL), ("m", b"other")):
-        made = KERNEL.replace(b'"examples/vm/Image"', f'"{path}"'.encode()).replace(b'kind = "kernel"', b'kind = "raw"').replace(b"rec = [{}]", b"rec = [{pc = 0}]")
+        made = RAW.replace(b'"examples/vm/Image"', f'"{path}"'.encode())
         with tempfile.TemporaryDirectory() as folder:
             write(folder, {"m": other, "manifest.toml": made})
             manifest, files = reference.read_manifest("manifest.toml", folder)
@@ -304,7 +305,8 @@ def missing() -> list[str]:
     """A file that is missing is called by its path; a manifest's fault has the lines of the check."""
     fewer = {path: data for path, data in FILES.items() if path != "examples/vm/initrd.img"}
     wrong = []
-    for call, *words in ((rim.measure,), (rim.measure_json,), (rim.audit,), (rim.launch_rim, "one-vcpu"), (rim.list_commands, "one-vcpu"), (rim.dtb, "one-vcpu")):
+    asks = ((rim.measure,), (rim.measure_json,), (rim.audit,), *((each, "one-vcpu") for each in (rim.launch_rim, rim.list_commands, rim.dtb)))
+    for call, *words in asks:
         try:
             wrong.append(f"{call.__name__}: {call(VM, fewer, *words)!r}")
         except rim.NoFile as why:
@@ -329,12 +331,11 @@ def values() -> list[str]:
     lines = [line.split(" ") for line in kept("virtual-machine").splitlines()[1:-1]]
     wrong += differs("the names", list(report), [line[0] for line in lines])
     for name, word, rest in lines:
-        launch = report[name]
+        launch, is_refused = report[name], word == "refused"
         found = (launch.name, launch.algorithm, launch.value and launch.value.hex(), launch.refusal)
-        wrong += differs(name, found, (name, None, None, rest) if word == "refused" else (name, word, rest, None))
-        ask = partial(rim.launch_rim, VM, FILES, name)
-        wrong += differs(f"{name} by itself", error_of(ask) if word == "refused" else str(ask()), rest if word == "refused" else f"{word} {rest}")
-        wrong += differs(f"{name} of the report", error_of(launch.rim) if word == "refused" else str(launch.rim()), rest if word == "refused" else f"{word} {rest}")
+        wrong += differs(name, found, (name, None, None, rest) if is_refused else (name, word, rest, None))
+        for ask in (partial(rim.launch_rim, VM, FILES, name), launch.rim):
+            wrong += differs(f"{name}: {ask}", error_of(ask) if is_refused else str(ask()), rest if is_refused else f"{word} {rest}")
     wrong += differs("pages", f"pages {report.pages}", kept("virtual-machine").splitlines()[-1])
     wrong += differs("no launch", error_of(lambda: report["none"]), "no-such-launch") + differs("get", report.get("none"), None)
     wrong += differs("paths", rim.manifest_paths(VM), list(FILES))
@@ -407,7 +408,8 @@ def room() -> list[str]:
 def threads() -> list[str]:
     """Eight threads at a time have each its own answer."""
     asks = [(lambda: rim.measure(VM, FILES).text, kept("virtual-machine")), (lambda: rim.measure(KERNEL, FILES).text, kept("kernel-example")),
-            (lambda: rim.list_commands(VM, FILES, "one-vcpu"), kept("virtual-machine-listing")), (lambda: rim.map(VM, FILES, "two-vcpus").text, kept("virtual-machine-map"))]
+            (lambda: rim.list_commands(VM, FILES, "one-vcpu"), kept("virtual-machine-listing")),
+            (lambda: rim.map(VM, FILES, "two-vcpus").text, kept("virtual-machine-map"))]
     start = threading.Barrier(8)
 
     def asked(number: int) -> list[str]:
@@ -549,9 +551,10 @@ def main(words: list[str]) -> int:
     if not os.path.isfile(native.where()):
         raise SystemExit(f"{native.where()} is not built")
     left_out()
-    looks = [("codes", codes), ("groups", groups), ("bytes of many kinds", bytes_like), ("empty files", empty), ("odd names", odd_names), ("the manifest as a file", itself), ("no UTF-8", no_text),
-             ("missing files", missing), ("values", values), ("room", room), ("threads", threads), ("which library", found_library), ("the wheel", wheel),
-             ("older versions of Python", older_versions), *([("types", types)] if mypy() else []), *((path, partial(of_document, path)) for path in DOCUMENTS)]
+    looks = [("codes", codes), ("groups", groups), ("bytes of many kinds", bytes_like), ("empty files", empty), ("odd names", odd_names),
+             ("the manifest as a file", itself), ("no UTF-8", no_text), ("missing files", missing), ("values", values), ("room", room), ("threads", threads),
+             ("which library", found_library), ("the wheel", wheel), ("older versions of Python", older_versions)]
+    looks += [("types", types)] * bool(mypy()) + [(path, partial(of_document, path)) for path in DOCUMENTS]
     return told([(name, tried(look)) for name, look in looks] + at_a_time((run["name"], partial(of_run, run)) for run in runs()))
 
 

@@ -26,6 +26,9 @@ CRATES = os.path.join(TOP, "library", "rust")
 GO = os.path.join(TOP, "library", "go")
 DOCUMENTS = [path for path in (os.path.join(TOP, "docs", "LIBRARY.md"), os.path.join(TOP, "library", "README-python-rust.md")) if os.path.exists(path)]
 
+# What says where a library is.
+PLACES = ("RIM_LIBRARY_DIR", "PKG_CONFIG_PATH", "LIBRARY_PATH", "CGO_LDFLAGS")
+
 
 def text_of(*path: str) -> str:
     with open(os.path.join(TOP, *path), encoding="utf-8") as file:
@@ -46,11 +49,11 @@ class Place:
 
     def run(self, words: list[str], where: str = TOP, **changed: str) -> str:
         """What a program prints that is started in a folder; with its errors where it fails."""
-        environment = {key: value for key, value in os.environ.items() if key not in ("RIM_LIBRARY_DIR", "PKG_CONFIG_PATH", "LD_LIBRARY_PATH", "CGO_LDFLAGS")}
-        kept = {"CARGO_TARGET_DIR": os.path.join(self.folder, "target"), "GOCACHE": os.path.join(self.folder, "go"), "GOPROXY": "off", "RUSTFLAGS": "-D warnings"}
-        loader = os.environ.get("LD_LIBRARY_PATH", "")
-        if "LD_LIBRARY_PATH" in changed or loader:
-            changed["LD_LIBRARY_PATH"] = ":".join(filter(None, (changed.get("LD_LIBRARY_PATH"), loader)))
+        environment = {key: value for key, value in os.environ.items() if key not in PLACES}
+        kept = {"CARGO_TARGET_DIR": "target", "GOCACHE": "go"}
+        kept = {key: os.path.join(self.folder, name) for key, name in kept.items()} | {"GOPROXY": "off", "RUSTFLAGS": "-D warnings"}
+        loader = [changed.pop("LD_LIBRARY_PATH", ""), os.environ.get("LD_LIBRARY_PATH", "")]
+        kept["LD_LIBRARY_PATH"] = ":".join(filter(None, loader))
         ran = subprocess.run(words, cwd=where, env=environment | kept | changed, capture_output=True, text=True, timeout=600, check=False)
         return ran.stdout if ran.returncode == 0 else f"status {ran.returncode}: {ran.stdout}{ran.stderr}"
 
@@ -70,7 +73,8 @@ FOUND = [("by RIM_LIBRARY_DIR", lambda place: {"RIM_LIBRARY_DIR": place.library}
 
 def example(place: Place) -> list[str]:
     """The example prints the report of the program, but for its first line, wherever the library is found."""
-    words = ["cargo", "run", "--offline", "-q", "--manifest-path", os.path.join(CRATES, "Cargo.toml"), "--example", "measure", "--", "examples/vm/manifest.toml"]
+    words = ["cargo", "run", "--offline", "-q", "--manifest-path", os.path.join(CRATES, "Cargo.toml"), "--example", "measure", "--"]
+    words.append("examples/vm/manifest.toml")
     expected = text_of("tests", "cases", "virtual-machine", "stdout").partition("\n")[2]
     wrong = [line for how, changed in FOUND for line in differs(how, place.run(words, **changed(place)), expected)]
     said = place.run(words, RIM_LIBRARY_DIR="/none")

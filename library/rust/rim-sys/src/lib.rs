@@ -29,17 +29,80 @@ pub const RIM_JSON: rim_format = 1;
 pub const RIM_SHA256: rim_algorithm = 0;
 pub const RIM_SHA512: rim_algorithm = 1;
 
-#[rustfmt::skip]
 extern "C" {
-    pub fn rim_measure(manifest: *const rim_file, files: *const rim_file, count: usize, format: rim_format, out: *mut c_void, room: usize, length: *mut usize) -> rim_code;
+    pub fn rim_measure(
+        manifest: *const rim_file,
+        files: *const rim_file,
+        count: usize,
+        format: rim_format,
+        out: *mut c_void,
+        room: usize,
+        length: *mut usize,
+    ) -> rim_code;
     pub fn rim_audit(manifest: *const rim_file, files: *const rim_file, count: usize, out: *mut c_void, room: usize, length: *mut usize) -> rim_code;
-    pub fn rim_check(manifest: *const rim_file, files: *const rim_file, count: usize, quiet: c_int, format: rim_format, out: *mut c_void, room: usize, length: *mut usize) -> rim_code;
+    pub fn rim_check(
+        manifest: *const rim_file,
+        files: *const rim_file,
+        count: usize,
+        quiet: c_int,
+        format: rim_format,
+        out: *mut c_void,
+        room: usize,
+        length: *mut usize,
+    ) -> rim_code;
     pub fn rim_manifest_paths(manifest: *const rim_file, out: *mut c_void, room: usize, length: *mut usize) -> rim_code;
-    pub fn rim_launch_rim(manifest: *const rim_file, files: *const rim_file, count: usize, launch: *const c_char, launch_length: usize, algorithm: *mut rim_algorithm, out: *mut c_void, room: usize, length: *mut usize) -> rim_code;
-    pub fn rim_list(manifest: *const rim_file, files: *const rim_file, count: usize, launch: *const c_char, launch_length: usize, out: *mut c_void, room: usize, length: *mut usize) -> rim_code;
-    pub fn rim_trace(manifest: *const rim_file, files: *const rim_file, count: usize, launch: *const c_char, launch_length: usize, out: *mut c_void, room: usize, length: *mut usize) -> rim_code;
-    pub fn rim_map(manifest: *const rim_file, files: *const rim_file, count: usize, launch: *const c_char, launch_length: usize, format: rim_format, out: *mut c_void, room: usize, length: *mut usize) -> rim_code;
-    pub fn rim_dtb(manifest: *const rim_file, files: *const rim_file, count: usize, launch: *const c_char, launch_length: usize, out: *mut c_void, room: usize, length: *mut usize) -> rim_code;
+    pub fn rim_launch_rim(
+        manifest: *const rim_file,
+        files: *const rim_file,
+        count: usize,
+        launch: *const c_char,
+        launch_length: usize,
+        algorithm: *mut rim_algorithm,
+        out: *mut c_void,
+        room: usize,
+        length: *mut usize,
+    ) -> rim_code;
+    pub fn rim_list(
+        manifest: *const rim_file,
+        files: *const rim_file,
+        count: usize,
+        launch: *const c_char,
+        launch_length: usize,
+        out: *mut c_void,
+        room: usize,
+        length: *mut usize,
+    ) -> rim_code;
+    pub fn rim_trace(
+        manifest: *const rim_file,
+        files: *const rim_file,
+        count: usize,
+        launch: *const c_char,
+        launch_length: usize,
+        out: *mut c_void,
+        room: usize,
+        length: *mut usize,
+    ) -> rim_code;
+    pub fn rim_map(
+        manifest: *const rim_file,
+        files: *const rim_file,
+        count: usize,
+        launch: *const c_char,
+        launch_length: usize,
+        format: rim_format,
+        out: *mut c_void,
+        room: usize,
+        length: *mut usize,
+    ) -> rim_code;
+    pub fn rim_dtb(
+        manifest: *const rim_file,
+        files: *const rim_file,
+        count: usize,
+        launch: *const c_char,
+        launch_length: usize,
+        out: *mut c_void,
+        room: usize,
+        length: *mut usize,
+    ) -> rim_code;
     pub fn rim_replay(listing: *const rim_file, out: *mut c_void, room: usize, length: *mut usize) -> rim_code;
     pub fn rim_image(image: *const rim_file, out: *mut c_void, room: usize, length: *mut usize) -> rim_code;
     pub fn rim_fdt(tree: *const rim_file, out: *mut c_void, room: usize, length: *mut usize) -> rim_code;

@@ -63,8 +63,14 @@ pub fn answer(ask: Ask, path: &str, bytes: &[u8], files: &[(&str, &[u8])]) -> Re
 }
 
 /// One call, whose answer goes into the capacity of `out`.
-#[rustfmt::skip]
-fn call(ask: Ask, subject: &sys::rim_file, files: &[sys::rim_file], out: &mut Vec<u8>, length: &mut usize, algorithm: &mut sys::rim_algorithm) -> sys::rim_code {
+fn call(
+    ask: Ask,
+    subject: &sys::rim_file,
+    files: &[sys::rim_file],
+    out: &mut Vec<u8>,
+    length: &mut usize,
+    algorithm: &mut sys::rim_algorithm,
+) -> sys::rim_code {
     let (first, count) = (files.as_ptr(), files.len());
     let (out, room): (*mut c_void, usize) = (out.as_mut_ptr().cast(), out.capacity());
     let name = |launch: &str| -> (*const c_char, usize) { (launch.as_ptr().cast(), launch.len()) };
