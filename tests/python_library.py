@@ -6,7 +6,7 @@
 - The cases and rows of tests/ whose words ask something that the package has a call for: their texts, statuses and words.
 - That each code of rim.h has its exception, and there is no other.
 - Bytes of many kinds, empty files, names with odd characters, manifests and paths that are no UTF-8, files that are missing.
-- That an answer is made once where it has room, and twice where it has more bytes than that; eight threads at a time.
+- That an answer is made once where it has room, and twice where it has more bytes than that; eight threads at a time; that no memory is kept.
 - Which library is taken; the wheel, made twice, and installed where there is nothing else; the oldest Python that it is for; types, by mypy.
 - The programs of the documents print what they are said to print.
 
@@ -25,6 +25,7 @@ import subprocess
 import sys
 import tempfile
 import threading
+import time
 from collections.abc import Callable, Iterator
 from functools import partial
 
@@ -421,6 +422,37 @@ def threads() -> list[str]:
         return [line for wrong in pool.map(asked, range(8)) for line in wrong]
 
 
+def beside() -> list[str]:
+    """Other threads go on during a call."""
+    with concurrent.futures.ThreadPoolExecutor(1) as pool:
+        call, turns = pool.submit(rim.trace, LARGE, ZEROS, "large"), 0
+        while not call.done():
+            time.sleep(0.001)
+            turns += 1
+    return differs("some turns of another thread during a call", turns > 20, True)
+
+
+def resident() -> int:
+    """How many bytes of memory this process has."""
+    with open("/proc/self/statm", encoding="ascii") as file:
+        return int(file.read().split(" ")[1]) * mmap.PAGESIZE
+
+
+def memory() -> list[str]:
+    """Calls keep no memory: an answer, a fault of the manifest, a file that is missing."""
+    def ask() -> None:
+        rim.measure(VM, FILES)
+        error_of(lambda: rim.measure(VM + b"x", FILES))
+        error_of(lambda: rim.launch_rim(VM, {}, "one-vcpu"))
+
+    for _ in range(20):
+        ask()
+    before = resident()
+    for _ in range(200):
+        ask()
+    return [f"{resident() - before} bytes more after 600 calls, expected at most 2 MiB"] * (resident() - before > 2 << 20)
+
+
 # ---- which library, the wheel, older versions of Python
 
 
@@ -553,7 +585,7 @@ def main(words: list[str]) -> int:
     left_out()
     looks = [("codes", codes), ("groups", groups), ("bytes of many kinds", bytes_like), ("empty files", empty), ("odd names", odd_names),
              ("the manifest as a file", itself), ("no UTF-8", no_text), ("missing files", missing), ("values", values), ("room", room), ("threads", threads),
-             ("which library", found_library), ("the wheel", wheel), ("older versions of Python", older_versions)]
+             ("other threads", beside), ("memory", memory), ("which library", found_library), ("the wheel", wheel), ("older versions of Python", older_versions)]
     looks += [("types", types)] * bool(mypy()) + [(path, partial(of_document, path)) for path in DOCUMENTS]
     return told([(name, tried(look)) for name, look in looks] + at_a_time((run["name"], partial(of_run, run)) for run in runs()))
 
