@@ -1,6 +1,6 @@
 //! Realm Initial Measurements of confidential VMs (Arm CCA), computed from a manifest and its files in memory by the library librim.
 //!
-//! ```
+//! ```no_run
 //! let manifest = b"rim_manifest = 1\n[[launch]]\nname = \"small\"\nalgo = \"sha256\"\ns2sz = 33\n";
 //! let report = rim::measure(manifest, &[])?;
 //! println!("{}", report.rim("small")?); // sha256 and 64 digits
