@@ -46,9 +46,9 @@ uint32_t rim_proved_list(FILES, LAUNCH, OUT) { KEPT("list", KEEP_FILES, KEEP_LAU
 uint32_t rim_proved_trace(FILES, LAUNCH, OUT) { KEPT("trace", KEEP_FILES, KEEP_LAUNCH); }
 uint32_t rim_proved_map(FILES, LAUNCH, bool json, OUT) { KEPT("map", KEEP_FILES, KEEP_LAUNCH, .json = json); }
 uint32_t rim_proved_dtb(FILES, LAUNCH, OUT) { KEPT("dtb", KEEP_FILES, KEEP_LAUNCH); }
-uint32_t rim_proved_replay(const rim_file *subject, OUT) { KEPT("replay", .subject = *subject); }
-uint32_t rim_proved_image(const rim_file *subject, OUT) { KEPT("image", .subject = *subject); }
-uint32_t rim_proved_fdt(const rim_file *subject, OUT) { KEPT("fdt", .subject = *subject); }
+uint32_t rim_proved_replay(const rim_file *subject, const rim_file *files, size_t count, OUT) { KEPT("replay", .subject = *subject, .files = files, .count = count); }
+uint32_t rim_proved_image(const rim_file *subject, const rim_file *files, size_t count, OUT) { KEPT("image", .subject = *subject, .files = files, .count = count); }
+uint32_t rim_proved_fdt(const rim_file *subject, const rim_file *files, size_t count, OUT) { KEPT("fdt", .subject = *subject, .files = files, .count = count); }
 uint32_t rim_proved_version(OUT) { KEPT("version", .lanes = 0); }
 uint32_t rim_proved_rim(FILES, LAUNCH, uint32_t *algorithm, OUT) {
     *algorithm = number;

@@ -70,6 +70,11 @@ static bool is_untouched(void) {
     return true;
 }
 
+/* Whether a call has answered as with ample memory: some requests are for what it does without. */
+static bool is_ample(const struct ended *ended) {
+    return ended->code == ample.code && ended->length == ample.length && ended->algorithm == ample.algorithm && memcmp(room, answer, ample.length) == 0;
+}
+
 /* A call whose request of this number is refused; whether there was such a request. */
 static bool is_starved(const struct asked *asked, const struct given *given, long number) {
     struct ended ended = watched(asked, given, room, number);
@@ -78,9 +83,11 @@ static bool is_starved(const struct asked *asked, const struct given *given, lon
         wrong("%s, request %ld refused %s: %ld blocks are kept", asked->command, number, what, held);
     if (!is_refused)
         return false;
-    if (ended.code != RIM_NO_MEMORY)
+    if (is_ample(&ended))
+        memset(room, 0x5a, ended.length);
+    else if (ended.code != RIM_NO_MEMORY)
         wrong("%s, request %ld refused %s: code %d", asked->command, number, what, (int)ended.code);
-    if (ended.length != UNSAID || ended.algorithm != NO_ALGORITHM || !is_untouched())
+    else if (ended.length != UNSAID || ended.algorithm != NO_ALGORITHM || !is_untouched())
         wrong("%s, request %ld refused %s: something is written", asked->command, number, what);
     return true;
 }
