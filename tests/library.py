@@ -41,7 +41,7 @@ from helpers.rows import all_runs, contents, difference, write
 from helpers.tries import Outcome, at_a_time, differs, told
 
 CODES = pathlib.Path(TOP, "crates", "rim_calls", "src", "codes.rt")
-PAGES = (pathlib.Path(TOP, "docs", "LIBRARY.md"), INCLUDE / "README-c.md")
+PAGES = (pathlib.Path(TOP, "docs", "LIBRARY.md"),)
 REFUSING = ["-Wl,--wrap=malloc,--wrap=realloc,--wrap=free"]
 VALGRIND = ["valgrind", "-q", "--error-exitcode=99", "--leak-check=full", "--errors-for-leak-kinds=definite,indirect,possible"]
 OF_LAUNCH, OF_MANIFEST, OF_FILE = ("list", "trace", "map", "dtb"), ("measure", "audit", "check"), ("replay", "image", "fdt")

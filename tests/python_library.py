@@ -39,7 +39,7 @@ from sharing import oldest_python
 PACKAGE = os.path.join(TOP, "library", "python")
 HEADER = os.path.join(TOP, "library", "rim.h")
 # Where the programs are that people read.
-DOCUMENTS = [path for path in (os.path.join(TOP, "docs", "LIBRARY.md"), os.path.join(TOP, "library", "README-python-rust.md")) if os.path.exists(path)]
+DOCUMENTS = [os.path.join(TOP, "docs", "LIBRARY.md")]
 sys.path.insert(0, PACKAGE)
 sys.dont_write_bytecode = True
 

@@ -24,7 +24,7 @@ from helpers.tries import differs, told, tried
 
 CRATES = os.path.join(TOP, "library", "rust")
 GO = os.path.join(TOP, "library", "go")
-DOCUMENTS = [path for path in (os.path.join(TOP, "docs", "LIBRARY.md"), os.path.join(TOP, "library", "README-python-rust.md")) if os.path.exists(path)]
+DOCUMENTS = [os.path.join(TOP, "docs", "LIBRARY.md")]
 
 # What says where a library is.
 PLACES = ("RIM_LIBRARY_DIR", "PKG_CONFIG_PATH", "LIBRARY_PATH", "CGO_LDFLAGS")

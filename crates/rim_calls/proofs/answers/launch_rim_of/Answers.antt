@@ -21,7 +21,11 @@ returns-in-Ok-launch_rim c =
     let is : (code : ℕ) → code ≡ 0 → IsRimOf held s.bytes.now c.args.launch.now c.number_of.result c.digest.result.now code
     = λ code zero. record { rim = m; own = own; digest = c.digest.ensures.value; algorithm = c.number_of.ensures; well = zero } in
     elim (cases_Bool c.put.result) [
-      | inl there ↦ inr (inl (inl (record { text = c.digest.result.now; holds = is c.code_if.result (c.code_if.ensures.put there); written = c.put.ensures.put there })))
+      | inl there ↦ inr (inl (inl (record {
+        text = c.digest.result.now;
+        holds = is c.code_if.result (c.code_if.ensures.put there);
+        written = c.put.ensures.put there;
+      })))
       | inr none ↦ inr (inl (inr (record {
         text = c.digest.result.now;
         status = 0;
