@@ -126,6 +126,8 @@ MANIFESTS = {
 }
 SINGLE = {("replay",): lambda data: of_replay(rim.replay(data)), ("image",): of_image, ("fdt",): lambda data: (0, rim.fdt(data))}
 COUNTS = {"list": 2, "trace": 2, "map": 2, "dtb": 2}
+# What follows the word of a file that cannot be read: the library has no system to ask.
+OF_SYSTEM = re.compile(rb"(: file-(?:unreadable|too-large))(?:: [^\n\"]*)")
 
 
 def question(run: dict) -> tuple[tuple[str, ...], list[str]] | None:
@@ -136,7 +138,14 @@ def question(run: dict) -> tuple[tuple[str, ...], list[str]] | None:
     asked = (command, *options)
     if asked not in MANIFESTS and asked not in SINGLE or len(words) != COUNTS.get(command, 1) or "stdin" in run:
         return None
-    return (asked, words) if words[0] in run["files"] or words[0].startswith("examples/") else None
+    if not (words[0] in run["files"] or words[0].startswith("examples/")) or names_device(run, words[0]):
+        return None
+    return asked, words
+
+
+def names_device(run: dict, path: str) -> bool:
+    """Whether the file at a path names a device: its bytes cannot be lent."""
+    return re.search(rb"[\"']/dev/", file_of(run, path) or b"") is not None
 
 
 def file_of(run: dict, path: str) -> bytes | None:
@@ -174,11 +183,12 @@ def files_of(run: dict, manifest: bytes) -> dict[str, bytes]:
 
 
 def of_run(run: dict) -> list[str]:
-    """How a run by the package differs from what is expected of the program."""
+    """How a run by the package differs from what is expected of the program, but for what a system says of a file that cannot be read."""
     status, *written = ended(run)
     wrong = differs("status", status, run.get("status", 0))
     for key, found in zip(EXPECTED, written):
-        wrong += difference(key, contents(run.get(key, run.get(key + "_begins", ""))), found, key + "_begins" in run)
+        expected = OF_SYSTEM.sub(rb"\1", contents(run.get(key, run.get(key + "_begins", ""))))
+        wrong += difference(key, expected, found, key + "_begins" in run)
     return wrong
 
 
