@@ -28,7 +28,7 @@ import links  # noqa: E402, the path is set above
 HOSTILE = {"TAR_OPTIONS": "--mode=0777 --format=pax", "DPKG_DEB_COMPRESSOR_LEVEL": "1", "DPKG_DEB_COMPRESSOR_TYPE": "gzip", "GZIP": "-1",
            "DPKG_DEB_THREADS_MAX": "4", "XZ_OPT": "-0", "XZ_DEFAULTS": "-T4", "POSIXLY_CORRECT": "1", "CDPATH": "/", "GIT_DIR": "/none",
            "TZ": "Asia/Tokyo", "PYTHONHOME": "/none", "TWO": "lines\nPATH=/none", "LANG": "xx", "GREP_COLORS": "x"}
-# What the packages of the library have, beside what tells of them; for amd64 there is a shared library more.
+# What the packages of the library have, beside what says what they are; for amd64 there is a shared library more.
 LIBRARY = {"librim0": ["usr/lib/{0}/librim.so.0"],
            "librim-dev": ["usr/include/rim.h", *(f"usr/lib/{{0}}/{name}" for name in ("librim.a", "librim.so", "pkgconfig/rim.pc"))]}
 WIDE = "usr/lib/{0}/glibc-hwcaps/x86-64-v3/librim.so.0"

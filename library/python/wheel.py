@@ -12,8 +12,10 @@ import base64
 import hashlib
 import os
 import re
+import stat
 import struct
 import sys
+import tempfile
 import zipfile
 
 HERE = os.path.dirname(os.path.abspath(__file__))
@@ -21,18 +23,26 @@ HERE = os.path.dirname(os.path.abspath(__file__))
 MACHINES = {62: "x86_64", 183: "aarch64"}
 # The oldest C library of which a wheel may say that it needs no newer one.
 OLDEST = 17
+# A library has some megabytes.
+LIMIT = 64 << 20
 
 
 def read(path: str) -> bytes:
+    """The bytes of a file. What is no file, as a FIFO, is not waited for."""
+    if not stat.S_ISREG(os.stat(path).st_mode):
+        raise SystemExit(f"wheel.py: {path!r}: it is no file")
     with open(path, "rb") as file:
-        return file.read()
+        data = file.read(LIMIT + 1)
+    if len(data) > LIMIT:
+        raise SystemExit(f"wheel.py: {path!r}: it has more than {LIMIT} bytes")
+    return data
 
 
 def machine_of(path: str, data: bytes) -> str:
     """The processor that a library is for."""
-    number = struct.unpack_from("<H", data, 18)[0] if data[:6] == b"\x7fELF\x02\x01" else None
+    number = struct.unpack_from("<H", data, 18)[0] if data[:6] == b"\x7fELF\x02\x01" and len(data) >= 20 else None
     if number not in MACHINES:
-        raise SystemExit(f"wheel.py: {path}: it is no library for x86-64 or arm64, expected librim.so.0")
+        raise SystemExit(f"wheel.py: {path!r}: it is no library for x86-64 or arm64, expected librim.so.0")
     return MACHINES[number]
 
 
@@ -75,11 +85,15 @@ def record(files: dict[str, bytes], path: str) -> bytes:
 
 
 def write(path: str, files: dict[str, bytes]) -> None:
-    with zipfile.ZipFile(path, "w", zipfile.ZIP_DEFLATED) as wheel:
-        for name, data in files.items():
-            entry = zipfile.ZipInfo(name, (1980, 1, 1, 0, 0, 0))
-            entry.create_system, entry.external_attr, entry.compress_type = 3, 0o100644 << 16, zipfile.ZIP_DEFLATED
-            wheel.writestr(entry, data, compresslevel=9)
+    """Writes a wheel, whole or not at all."""
+    with tempfile.TemporaryDirectory(dir=os.path.dirname(path) or ".", prefix=".wheel-") as folder:
+        part = os.path.join(folder, "wheel")
+        with zipfile.ZipFile(part, "w", zipfile.ZIP_DEFLATED) as wheel:
+            for name, data in files.items():
+                entry = zipfile.ZipInfo(name, (1980, 1, 1, 0, 0, 0))
+                entry.create_system, entry.external_attr, entry.compress_type = 3, 0o100644 << 16, zipfile.ZIP_DEFLATED
+                wheel.writestr(entry, data, compresslevel=9)
+        os.replace(part, path)
 
 
 def main() -> int:
@@ -104,4 +118,7 @@ def main() -> int:
 
 
 if __name__ == "__main__":
-    sys.exit(main())
+    try:
+        sys.exit(main())
+    except OSError as why:
+        sys.exit(f"wheel.py: {why.filename or 'the wheel'!r}: {why.strerror}")

@@ -53,7 +53,7 @@ class Files(dict[str, Blob]):
     def __init__(self, rim: Rim, folder: str = "", hints: Hints | None = None):
         super().__init__()
         self.rim, self.folder, self.hints = rim, folder, hints or Hints()
-        self.of_keys: dict[Hashable, str] = {}     # files that were made, by what tells them apart
+        self.of_keys: dict[Hashable, str] = {}     # files that were made, by how one is known from another
         self.of_changes: dict[object, str | None] = {}
         self.of_begins: dict[object, Any] = {}     # with what REC 0 begins: see begins
         self.flats: dict[str, Flat | None] = {}
