@@ -12,6 +12,7 @@ import base64
 import hashlib
 import os
 import re
+import signal
 import stat
 import struct
 import sys
@@ -117,7 +118,14 @@ def main() -> int:
     return 0
 
 
+def stop(number: int, _frame: object) -> None:
+    """Ends by a signal's status, so that nothing is left of a wheel that is not whole."""
+    raise SystemExit(128 + number)
+
+
 if __name__ == "__main__":
+    for each in (signal.SIGINT, signal.SIGTERM, signal.SIGHUP):
+        signal.signal(each, stop)
     try:
         sys.exit(main())
     except OSError as why:
