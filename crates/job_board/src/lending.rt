@@ -103,7 +103,22 @@ impl Lending {
         }
     }
 
-    /// A launch that a worker was lent and that is free, if one is left.
+    /// The first launch that a worker was lent and that is free, if one is left.
+    pub(crate) fn first_open(&self, core: &Core, worker: usize) -> Option<usize>
+        ensures { IfSome result (IsOpen core.now) }
+    {
+        let lent = self.lent.get(worker)?;
+        for slot in lent {
+            if let Some(number) = *slot
+                && core.is_open(number)
+            {
+                return Some(number);
+            }
+        }
+        None
+    }
+
+    /// The same. It is given to the worker, and those before it, which are not free, are passed for good.
     pub(crate) fn next(&mut self, core: &Core, worker: usize) -> Option<usize>
         ensures { IfSome result (IsOpen core.now) }
     {

@@ -62,6 +62,13 @@ impl Preferences {
         self.lending.places(worker, algo)
     }
 
+    /// A free launch of those that a worker was lent, if one is left. The worker is best given that one next.
+    pub(crate) fn next_lent(&self, core: &Core, worker: usize) -> Option<usize>
+        ensures { IfSome result (IsOpen core.now) }
+    {
+        self.lending.first_open(core, worker)
+    }
+
     /// The launch in a place of those that a worker was lent, if it is free.
     pub(crate) fn lent(&self, core: &Core, worker: usize, place: usize) -> Option<usize>
         ensures { IfSome result (IsOpen core.now) }

@@ -3,6 +3,9 @@
 //! A worker that finds nothing ready sleeps. Only a put, a retirement and a prefix that is kept change what it is given, and each
 //! wakes all that sleep, so it misses nothing. Where none sleeps, that makes no system call.
 //!
+//! The put of a launch wakes none as long as its worker was lent another one that is free. Nothing has become ready then and not all
+//! is done, so all that a sleeper could be given is that one, which it would chain anew.
+//!
 //! A worker that leaves launches for later holds no job, and another worker holds one: so the state's `take_or_wait` says. That
 //! one keeps a prefix, puts its job or retires, and each ends the wait. A job that was taken before the run in the name of worker 0, or
 //! of a worker that could not be started, is waited for as long as nobody puts it.
@@ -45,8 +48,8 @@ impl<'a, L: Run> Board<'a, L> {
         self.state.lock(rt).pages()
     }
 
-    /// A free job that is ready, or why none is given. Where nothing that is free is ready, the worker sleeps. Each put and
-    /// each retirement that is accepted wakes all that sleep.
+    /// A free job that is ready, or why none is given. Where nothing that is free is ready, the worker sleeps until a put or a
+    /// retirement changes that.
     pub fn take(&self, rt: &impl Wait, worker: usize) -> Work<'a, L>
         ensures found { (found : BoardView) × (left : BoardView) × IsBoard found
             × IsOfRun L.pages L.plans found × Gives found worker result left }
@@ -57,7 +60,7 @@ impl<'a, L: Run> Board<'a, L> {
 
     /// The same, but the worker also sleeps where each launch that is free and ready goes on from a prefix that is not kept yet, as
     /// long as another worker holds a job. It is for workers that keep the prefixes that they come to, and put each job that they
-    /// take, or retire, before they come again: all these wake those that sleep.
+    /// take, or retire, before they come again; and that come again after a put: all this wakes those that sleep.
     pub(crate) fn take_or_wait(&self, rt: &impl Wait, worker: usize) -> Work<'a, L>
         ensures found { (found : BoardView) × (left : BoardView) × IsBoard found
             × IsOfRun L.pages L.plans found × Gives found worker result left }
@@ -109,7 +112,8 @@ impl<'a, L: Run> Board<'a, L> {
         answer
     }
 
-    /// Puts a launch that a worker holds. It is handed back exactly where the worker does not hold its job.
+    /// Puts a launch that a worker holds. It is handed back exactly where the worker does not hold its job. Those that sleep are woken,
+    /// unless the worker is best given another launch next that was lent to it: it has chained that one already.
     pub fn put_launch(
         &self,
         rt: &impl Wait,
@@ -123,11 +127,19 @@ impl<'a, L: Run> Board<'a, L> {
             (Event.Put worker (JobId.Launch launch.entry.job.number)) left result }
         ensures err { IfErr result (λ l. l ≡ launch.entry) }
     {
-        let answer = self.state.lock(rt).put_launch(worker, launch);
-        if answer.is_ok() {
+        let mut state = self.state.lock(rt);
+        let answer = state.put_launch(worker, launch);
+        let goes_on = state.next_lent(worker).is_some();
+        drop(state);
+        self.wake_unless(goes_on);
+        answer
+    }
+
+    /// Wakes all that sleep, unless the worker that has put a job goes on with one that it was lent.
+    fn wake_unless(&self, goes_on: bool) {
+        if !goes_on {
             self.changed.notify_all();
         }
-        answer
     }
 
     /// The shares of all workers add up to the book of the board that is found, and stay as they are.

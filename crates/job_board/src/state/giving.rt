@@ -196,6 +196,13 @@ impl<'a, L: Run> BoardState<'a, L> {
         self.preferences.lend_count(worker, algo)
     }
 
+    /// A launch that is free and ready, of those that a worker was lent, if one is left. It is best given to that worker next.
+    pub fn next_lent(&self, worker: usize) -> Option<usize>
+        ensures { IfSome result (IsOpen self.now.core) }
+    {
+        self.preferences.next_lent(&self.core, worker)
+    }
+
     /// Lends a worker the launch of a place, which is ready, to be chained beside the one that it has taken. It was chosen when that one
     /// was. It is not taken by that, and is best given to this worker later. The row is handed back where no launch is in that place, or
     /// the row has no room for it.
