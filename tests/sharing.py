@@ -128,6 +128,25 @@ def copied_files() -> list[str]:
     return wrong
 
 
+def put_files() -> list[str]:
+    """Files get their places together: where one cannot be written, those that are there stay as they are, and nothing else is left."""
+    with tempfile.TemporaryDirectory() as here:
+        place = os.path.join(here, "new", "folder")
+
+        def has() -> dict[str, tuple[bytes, int]]:
+            return {name: (files.read(os.path.join(place, name), 64), os.stat(os.path.join(place, name)).st_mode & 0o777) for name in os.listdir(place)}
+
+        first, more = {"a": (b"1", 0o644), "b": (b"2", 0o755)}, {"a": (b"3", 0o755), "c": (b"4", 0o600)}
+        files.put(place, first)
+        wrong = [f"{has()}"] * (has() != first)
+        said = fault_of(lambda: files.put(place, more | {"n" * 256: (b"5", 0o644)}))
+        wrong += [said] * (not said.endswith(": File name too long, expected that it can be written")) + [f"after a fault: {has()}"] * (has() != first)
+        files.put(place, more)
+        wrong += [f"{has()}"] * (has() != first | more)
+        said = fault_of(lambda: files.put(os.path.join(place, "a"), more))
+    return wrong + [said] * (not said.endswith("/a: File exists, expected a folder in which files can be made"))
+
+
 def read_data() -> list[str]:
     found = [(data[:40], fault_of(lambda call=call, data=data: call("x", data)), expected) for call, data, expected in DATA]
     return [f"{data!r}: {said!r}, expected {expected!r}" for data, said, expected in found if not said.startswith(expected)]
@@ -418,7 +437,7 @@ def trees(program: str) -> list[str]:
 
 def run_all() -> int:
     program = program_of(sys.argv[1:])
-    looks = {look.__name__: look for look in (shown_texts, read_files, copied_files, read_data, run_programs, stopped, ends, versions)}
+    looks = {look.__name__: look for look in (shown_texts, read_files, copied_files, put_files, read_data, run_programs, stopped, ends, versions)}
     looks |= {look.__name__: partial(look, program) for look in (images, trees, oldest)}
     return told([(name, look()) for name, look in looks.items()])
 

@@ -94,17 +94,31 @@ def filled(data: bytes, step: int = 1 << 16) -> bytes:
 
 
 @contextmanager
-def folder(prefix: str) -> Iterator[str]:
-    """A folder for the steps in it, which is gone after them, also where a signal stops the script."""
+def folder(prefix: str, place: str | None = None) -> Iterator[str]:
+    """A folder for the steps in it, which is gone after them, also where a signal stops the script. It is in that for temporary files, or in a place."""
     made = ""
     try:
-        with held(), faults_of(os.environ.get("TMPDIR") or "/tmp", "a folder in which files can be made"):
-            made = tempfile.mkdtemp(prefix=prefix)
+        with held(), faults_of(place or os.environ.get("TMPDIR") or "/tmp", "a folder in which files can be made"):
+            made = tempfile.mkdtemp(prefix=prefix, dir=place)
         yield made
     finally:
         if made:
             with held():
                 shutil.rmtree(made, ignore_errors=True)
+
+
+def put(place: str, made: dict[str, tuple[bytes, int]]):
+    """Puts files into a folder, each with its mode: all of them whole, in this order, or none where not all can be written."""
+    with faults_of(place, "a folder in which files can be made"):
+        os.makedirs(place, exist_ok=True)
+    with folder(".new-", place) as meanwhile:
+        for name, (data, mode) in made.items():
+            write(os.path.join(meanwhile, name), data, os.path.join(place, name))
+            os.chmod(os.path.join(meanwhile, name), mode)
+        with held():
+            for name in made:
+                with faults_of(os.path.join(place, name), "a file that can be replaced"):
+                    os.replace(os.path.join(meanwhile, name), os.path.join(place, name))
 
 
 def text_of(path: str, data: bytes, what: str) -> str:
