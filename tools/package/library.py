@@ -11,18 +11,19 @@ NAME is x86_64-v2, x86_64-v3 or aarch64. Both are of the proved calls, of librar
 by which the calls take and give back memory. They have no names for a program but those of library/rim.h: in the archive, which has one object,
 all others are made local, and the shared library exports none. That needs the C library alone.
 
-All is compiled and linked by the kit's tools, so whoever has the kit and Debian's packages of native.py gets the same bytes. No time, no path and
-no user's name is in them. What cannot be built here is said, with what to install, and the status is 1.
+All is compiled and linked by the kit's tools, so whoever has the kit and Debian's packages that each library names gets the same bytes. No time, no
+path and no user's name is in them. tools/package/dist.py writes dist/ by this. What cannot be built here is said, with what to install, and the
+status is 1.
 """
 import pathlib
 import re
-import subprocess
 import sys
-import tempfile
 from dataclasses import dataclass
 
 import native
-from native import ARM64, TOP, X86_64, CannotBuild, Package, Target, done, kit
+from native import ARM64, TOP, X86_64, CannotBuild, Package, Target, by_tool, done, kit
+
+from outside import ending, files  # noqa: E402, native sets its path
 
 CRATE = "rim_c"
 HEADER, FRONT, TEMPLATE = TOP / "library/rim.h", TOP / "library/rim.c", TOP / "library/rim.pc.in"
@@ -51,6 +52,19 @@ class Library(Target):
         return f"librim-{self.name}.a", f"librim-{self.name}.so.0"
 
     @property
+    def paths(self) -> tuple[str, ...]:
+        return tuple(f"dist/{name}" for name in self.names)
+
+    @property
+    def packages(self) -> tuple[Package, ...]:
+        """The compiler's own functions and headers; for arm64 the C library's headers too, and the shared C library. For x86-64 the kit has these."""
+        return (self.system.gcc,) if self.system == X86_64 else (*self.system.packages, ARM64_LIBC)
+
+    @property
+    def mode(self) -> int:
+        return 0o644
+
+    @property
     def libc(self) -> str:
         return str(kit() / "toolchain/lib/libc.so.6") if self.system == X86_64 else ARM64_LIBC.path("libc.so.6")
 
@@ -58,14 +72,6 @@ class Library(Target):
 # By AVX2 eight pages are hashed side by side, and four without.
 LIBRARIES = (Library("x86_64-v2", CRATE, X86_64, march="x86-64-v2"), Library("x86_64-v3", CRATE, X86_64, ("--cpu=x86-64-v3",), "x86-64-v3"),
              Library("aarch64", CRATE, ARM64))
-
-
-def wanting(library: Library) -> str:
-    """What to install for a library; nothing where all is here."""
-    if want := native.wanting(library):
-        return want
-    is_here = library.system == X86_64 or ARM64_LIBC.is_here
-    return "" if is_here else f"{library.path}: {ARM64_LIBC.name} is not installed: apt-get install {ARM64_LIBC.name}"
 
 
 def text_of(path: pathlib.Path) -> str:
@@ -99,14 +105,6 @@ def pkg_config(prefix: str, libdir: str) -> str:
 
 
 # ---- the parts
-
-
-def by_tool(name: str, *words: str):
-    """Runs one of LLVM's tools. The kit has them in one program, which goes by the name that it is called by."""
-    ran = subprocess.run([name, *words], executable=kit() / "toolchain/bin/clang", stdout=subprocess.PIPE, stderr=subprocess.STDOUT, text=True,
-                         errors="replace", check=False)
-    if ran.returncode:
-        raise CannotBuild(f"{name} failed: {ran.stdout[-2000:].strip()}")
 
 
 def calls_of(library: Library, made: pathlib.Path | None, folder: pathlib.Path) -> pathlib.Path:
@@ -157,7 +155,6 @@ def write_archive(joined: pathlib.Path, out: pathlib.Path):
     """An archive of one object. D: without times, users and modes."""
     out.unlink(missing_ok=True)
     by_tool("llvm-ar", "rcsD", str(out), str(joined))
-    out.chmod(0o644)
 
 
 def write_shared(library: Library, joined: pathlib.Path, out: pathlib.Path):
@@ -169,54 +166,49 @@ def write_shared(library: Library, joined: pathlib.Path, out: pathlib.Path):
           "-z", "relro", "-z", "now", "-z", "text", "-z", "noexecstack", "--hash-style=gnu", "--build-id=none", "--eh-frame-hdr", "--gc-sections",
           "--no-undefined", "-o", str(made), str(joined), library.system.gcc.path("libgcc.a"), library.libc], library.path)
     out.write_bytes(native.stripped(made))
-    out.chmod(0o644)
 
 
-def build(library: Library, made: pathlib.Path | None, to: pathlib.Path):
-    """Builds both files of a library into a folder."""
-    if want := wanting(library):
+def build(library: Library, made: pathlib.Path | None = None) -> dict[str, bytes]:
+    """The files of a library by their names. Its calls are those that the kit has made before, or makes now."""
+    if want := native.wanting(library):
         raise CannotBuild(want)
-    with tempfile.TemporaryDirectory() as name:
+    with files.folder("rim-library-") as name:
         folder = pathlib.Path(name)
         parts = [calls_of(library, made, folder), front_of(library, folder), memory_of(library, folder)]
         joined = folder / "librim.o"
         join(library, parts, joined)
-        archive, shared = library.names
-        write_archive(joined, to / archive)
-        write_shared(library, joined, to / shared)
+        archive, shared = (folder / each for each in library.names)
+        write_archive(joined, archive)
+        write_shared(library, joined, shared)
+        return {path.name: path.read_bytes() for path in (archive, shared)}
 
 
 def build_all(made: pathlib.Path | None, to: pathlib.Path) -> list[str]:
-    """Builds what can be built here; why the rest cannot."""
+    """Builds what can be built here, and writes it into a folder; why the rest cannot."""
     faults = []
-    to.mkdir(parents=True, exist_ok=True)
     for library in LIBRARIES:
         try:
-            build(library, made, to)
+            files.put(str(to), {name: (data, library.mode) for name, data in build(library, made).items()})
         except CannotBuild as why:
             faults.append(str(why))
     return faults
 
 
-def main(words: list[str]) -> int:
-    try:
-        match words:
-            case ["--pkg-config", prefix, libdir]:
-                print(pkg_config(prefix, libdir), end="")
-                faults = []
-            case [to] if not to.startswith("-"):
-                faults = build_all(None, pathlib.Path(to))
-            case [to, "--over", made] if not to.startswith("-"):
-                faults = build_all(pathlib.Path(made), pathlib.Path(to))
-            case _:
-                print(__doc__.split("\n\n")[1], file=sys.stderr)
-                return 2
-    except (CannotBuild, OSError) as why:
-        faults = [str(why)]
-    for fault in faults:
-        print(f"library.py: {fault}", file=sys.stderr)
+def main() -> int:
+    match sys.argv[1:]:
+        case ["--pkg-config", prefix, libdir]:
+            print(pkg_config(prefix, libdir), end="")
+            return 0
+        case [to] if not to.startswith("-"):
+            faults = build_all(None, pathlib.Path(to))
+        case [to, "--over", made] if not to.startswith("-"):
+            faults = build_all(pathlib.Path(made), pathlib.Path(to))
+        case _:
+            print(__doc__.split("\n\n")[1], file=sys.stderr)
+            return 2
+    ending.say("library.py", *faults)
     return int(bool(faults))
 
 
 if __name__ == "__main__":
-    sys.exit(main(sys.argv[1:]))
+    sys.exit(ending.status_of("library.py", main))

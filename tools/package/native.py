@@ -5,19 +5,25 @@ For x86-64 the C functions that a program of Rattle's calls beside the C library
 c/rattle.c, compiled by the kit. What else is linked in is of two of Debian's packages for each processor: other versions of them give other bytes.
 """
 import hashlib
+import os
 import pathlib
 import shutil
-import subprocess
 import sys
-import tempfile
 from dataclasses import dataclass
 
 TOP = pathlib.Path(__file__).resolve().parents[2]
+sys.path.insert(0, str(TOP / "scripts"))
+
+from outside import files, programs  # noqa: E402, the path is set above
+from outside.programs import Limits, Ran  # noqa: E402
+
 C_SOURCE = TOP / "c/rattle.c"
+# How much a program that is started here may say; how much of it is shown where it fails.
+SAID, SHOWN = 64 << 20, 2000
 
 
 class CannotBuild(Exception):
-    """Why a program cannot be built here, with what to install."""
+    """Why something cannot be built here, with what to install."""
 
 
 @dataclass(frozen=True)
@@ -37,8 +43,7 @@ class Package:
 
     @property
     def version(self) -> str:
-        ran = subprocess.run(["dpkg-query", "-W", "-f=${Version}", self.name], stdout=subprocess.PIPE, stderr=subprocess.DEVNULL, text=True, check=False)
-        return ran.stdout.strip() or "none"
+        return run(["dpkg-query", "-W", "-f=${Version}", self.name]).out.decode().strip() or "none"
 
     @property
     def line(self) -> str:
@@ -86,23 +91,54 @@ class Target:
 
     @property
     def path(self) -> str:
+        """What it is called where something is said of it."""
         return f"dist/rim-{self.name}"
+
+    @property
+    def paths(self) -> tuple[str, ...]:
+        """The files of dist/ that it is."""
+        return (self.path,)
+
+    @property
+    def packages(self) -> tuple[Package, ...]:
+        """What is linked in, or linked against."""
+        return self.system.packages
+
+    @property
+    def mode(self) -> int:
+        """The mode of its files."""
+        return 0o755
 
 
 # By AVX2 eight pages are hashed side by side, and four without.
 TARGETS = (Target("x86_64-v2", "rim", X86_64), Target("x86_64-v3", "rim_wide", X86_64, ("--cpu=x86-64-v3",)), Target("aarch64", "rim", ARM64))
 
 
+def sum_of_bytes(data: bytes) -> str:
+    """A checksum, as `b2sum -l 256` has it."""
+    return hashlib.blake2b(data, digest_size=32).hexdigest()
+
+
 def sum_of(path: pathlib.Path) -> str:
-    return hashlib.blake2b(path.read_bytes(), digest_size=32).hexdigest()
+    return sum_of_bytes(path.read_bytes())
+
+
+def run(words: list[str], folder: pathlib.Path | None = None) -> Ran:
+    """Runs a program, which a signal that stops this script ends too, with all that it has started."""
+    return programs.run(words, Limits(out=SAID), str(folder) if folder else None)
+
+
+def end_of(ran: Ran) -> str:
+    """The end of what a program has said, or its status where that is nothing."""
+    return (ran.err.strip() or ran.out)[-SHOWN:].decode(errors="replace").strip() or f"status {ran.status}"
 
 
 def done(words: list[str], what: str, folder: pathlib.Path | None = None) -> str:
     """What a program has printed."""
-    ran = subprocess.run(words, cwd=folder, stdout=subprocess.PIPE, stderr=subprocess.PIPE, text=True, errors="replace", check=False)
-    if ran.returncode:
-        raise CannotBuild(f"{what}: {words[0]} failed: {(ran.stderr or ran.stdout)[-2000:].strip()}")
-    return ran.stdout
+    ran = run(words, folder)
+    if ran.status:
+        raise CannotBuild(f"{what}: {os.path.basename(words[0])} failed: {end_of(ran)}")
+    return ran.out.decode(errors="replace")
 
 
 def kit() -> pathlib.Path:
@@ -114,7 +150,7 @@ def kit() -> pathlib.Path:
 
 def wanting(target: Target) -> str:
     """What to install for a target; nothing where all is here."""
-    missing = [package.name for package in target.system.packages if not package.is_here]
+    missing = [package.name for package in target.packages if not package.is_here]
     return f"{target.path}: {' and '.join(missing)} {'are' if missing[1:] else 'is'} not installed: apt-get install {' '.join(missing)}" if missing else ""
 
 
@@ -135,11 +171,19 @@ def object_of(target: Target, top: pathlib.Path, out: pathlib.Path) -> str:
     """Has the kit prove a program for its processor and compile it, over the libraries that `rt ci` has built in a checkout; the line of its verdict."""
     words = [str(kit() / "bin/rattle"), "build", *crate_of(target, top).words(["--jobs", "1", *target.words]), "--target", target.system.triple,
              "--toolchain", str(kit() / "toolchain"), "--backend", "llvm", "-o", str(out)]
-    ran = subprocess.run(words, cwd=top / "crates" / target.crate, stdout=subprocess.PIPE, stderr=subprocess.STDOUT, text=True, check=False)
-    verdict = next((line for line in reversed(ran.stdout.splitlines()) if line.startswith("logic=")), "")
-    if ran.returncode or not verdict.startswith("logic=proved"):
-        raise CannotBuild(f"{target.path}: the kit has not built it: {ran.stdout[-2000:].strip()}")
+    ran = run(words, top / "crates" / target.crate)
+    said = ran.out + ran.err
+    verdict = next((line for line in reversed(said.decode(errors="replace").splitlines()) if line.startswith("logic=")), "")
+    if ran.status or not verdict.startswith("logic=proved"):
+        raise CannotBuild(f"{target.path}: the kit has not built it: {said[-SHOWN:].decode(errors='replace').strip()}")
     return verdict
+
+
+def by_tool(name: str, *words: str):
+    """Runs one of LLVM's tools. The kit has them in one program, which goes by the name that it is called by."""
+    with files.folder("rim-tool-") as folder:
+        os.symlink(kit() / "toolchain/bin/clang", f"{folder}/{name}")
+        done([f"{folder}/{name}", *words], "the kit")
 
 
 def functions_of(system: System, folder: str) -> list[str]:
@@ -157,7 +201,7 @@ def link(target: Target, made: pathlib.Path, out: pathlib.Path):
     if want := wanting(target):
         raise CannotBuild(want)
     libc, gcc = target.system.packages
-    with tempfile.TemporaryDirectory() as folder:
+    with files.folder("rim-link-") as folder:
         done([str(kit() / "toolchain/bin/ld.lld"), "-m", target.system.emulation, "-static", "-pie", "--no-dynamic-linker", "-z", "text", "-z", "relro", "-z", "now",
               "--build-id=none", "--eh-frame-hdr", "--gc-sections", "-o", str(out), libc.path("rcrt1.o"), libc.path("crti.o"), gcc.path("crtbeginS.o"), str(made),
               *functions_of(target.system, folder), "--start-group", gcc.path("libgcc.a"), gcc.path("libgcc_eh.a"), libc.path("libc.a"), "--end-group",
@@ -166,7 +210,7 @@ def link(target: Target, made: pathlib.Path, out: pathlib.Path):
 
 def stripped(program: pathlib.Path) -> bytes:
     """The bytes of a program without its names of functions, which nothing needs that runs it."""
-    with tempfile.TemporaryDirectory() as folder:
+    with files.folder("rim-strip-") as folder:
         copy = shutil.copy(program, folder)
-        subprocess.run(["llvm-strip", copy], executable=kit() / "toolchain/bin/clang", check=True)
+        by_tool("llvm-strip", copy)
         return pathlib.Path(copy).read_bytes()
