@@ -6,8 +6,8 @@
 The second time all that tar, gzip, xz, dpkg-deb and git take from the environment and from a user's configuration is set, new files may be
 written by everybody, and the folder for temporary files hands its group on. The bytes have to be the same, and the modes plain. Where dist/
 is not of the sources of the last commit, or dpkg-deb is not installed, nothing is asked. Each link of the documents leads somewhere in the
-archive. Where dist/ has the library for C, its packages have its files, and say of each of its names since which version it is there. A program that is
-linked with what they have says the library's version; where gcc or pkg-config is not installed, that is not asked.
+archive. Where dist/ has the library for C, its packages and the archives have its files, and the packages say of each of its names since which version it
+is there. A program that is linked with what they have says the library's version; where gcc or pkg-config is not installed, that is not asked.
 
 The last line is 'N passed, M failed'.
 """
@@ -119,22 +119,42 @@ int main(void) {
 """
 
 
-def linked(here: str, version: str) -> list[str]:
-    """What is wrong with a program that is linked with what the packages for amd64 have, by the words of pkg-config."""
-    tree = pathlib.Path(here, "installed")
-    for name in LIBRARY:
-        subprocess.run(["dpkg-deb", "--extract", os.path.join(here, "plain", f"{name}_{version}_amd64.deb"), tree], check=True)
-    folder, source, program = tree / "usr/lib" / MULTIARCH["amd64"], tree / "version.c", tree / "version"
+def linked(tree: pathlib.Path, usr: str, lib: str, version: str) -> list[str]:
+    """What is wrong with a program that is linked with the library that is unpacked in a folder of a tree, by the words of pkg-config, and with the
+    archive. Only what is in its place in a system needs to be told where that system is."""
+    top, source, program = tree / usr, tree / "version.c", tree / "version"
     source.write_text(SAYS_VERSION)
-    environment = os.environ | {"PKG_CONFIG_PATH": str(folder / "pkgconfig"), "PKG_CONFIG_SYSROOT_DIR": str(tree), "LD_LIBRARY_PATH": str(folder)}
+    environment = os.environ | {"PKG_CONFIG_PATH": str(top / lib / "pkgconfig"), "LD_LIBRARY_PATH": str(top / lib)}
+    environment |= {"PKG_CONFIG_SYSROOT_DIR": str(tree)} if usr else {}
     asked = subprocess.run(["pkg-config", "--cflags", "--libs", "rim"], stdout=subprocess.PIPE, text=True, check=True, env=environment)
     wrong = []
-    for words in (asked.stdout.split(), [f"-I{tree}/usr/include", str(folder / "librim.a")]):
+    for words in (asked.stdout.split(), [f"-I{top}/include", str(top / lib / "librim.a")]):
         subprocess.run(["gcc", "-std=c11", "-Wall", "-Wextra", "-Werror", source, *words, "-o", program], check=True)
         said = subprocess.run([program], stdout=subprocess.PIPE, text=True, check=False, env=environment)
         is_said = said.returncode == 0 and said.stdout.split(" ")[0] == version
         wrong += [] if is_said else [f"a program linked by {words}: status {said.returncode}, {said.stdout!r}"]
     return wrong
+
+
+def linked_by_all(here: str, version: str) -> list[str]:
+    """The same of the packages for amd64, and of the archive."""
+    installed, unpacked = pathlib.Path(here, "installed"), pathlib.Path(here, "unpacked")
+    for name in LIBRARY:
+        subprocess.run(["dpkg-deb", "--extract", os.path.join(here, "plain", f"{name}_{version}_amd64.deb"), installed], check=True)
+    with tarfile.open(os.path.join(here, "plain", f"rim-{version}-x86_64-linux.tar.gz")) as archive:
+        archive.extractall(unpacked, filter="data")
+    return linked(installed, "usr", f"lib/{MULTIARCH['amd64']}", version) + linked(next(unpacked.iterdir()), "", "lib", version)
+
+
+def of_archive(path: str) -> list[str]:
+    """What is wrong with the library in an archive."""
+    arch = next(arch for arch, multiarch in MULTIARCH.items() if multiarch.split("-")[0] in os.path.basename(path))
+    wide = [WIDE] if arch == "amd64" else []
+    wanted = {each.replace("usr/", "", 1).replace("lib/{0}", "lib") for each in [*LIBRARY["librim0"], *LIBRARY["librim-dev"], *wide]}
+    with tarfile.open(path) as archive:
+        found = {each.name.partition("/")[2] for each in archive if not each.isdir()}
+    found = {name for name in found if name.startswith(("lib/", "include/"))}
+    return [] if found == (wanted if in_dist(arch) else set()) else [f"{os.path.basename(path)}: {sorted(found)}, expected {sorted(wanted)}"]
 
 
 def packages(here: str) -> list[str] | None:
@@ -167,9 +187,10 @@ def packages(here: str) -> list[str] | None:
         with tarfile.open(path if name.endswith(".gz") else os.path.join(here, "package.tar")) as archive:
             folders = {"outside", "vmm", "matcher", "comparer"} - {os.path.basename(each.name) for each in archive if each.isdir()}
         wrong += [f"{name}: there is no {each}" for each in folders]
-    wrong += [line for name in plain[2] if name.endswith(".gz") for line in broken_links(here, os.path.join(here, "plain", name))]
+    archives = [os.path.join(here, "plain", name) for name in plain[2] if name.endswith(".gz")]
+    wrong += [line for path in archives for line in broken_links(here, path) + of_archive(path)]
     if in_dist("amd64") and shutil.which("gcc") and shutil.which("pkg-config"):
-        wrong += linked(here, version)
+        wrong += linked_by_all(here, version)
     return wrong + [f"{each} is left" for each in os.listdir(temporary)]
 
 

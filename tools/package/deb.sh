@@ -4,8 +4,8 @@
 #   tools/package/deb.sh [FOLDER]       rim_VERSION_amd64.deb, rim-VERSION-x86_64-linux.tar.gz, rim_VERSION_arm64.deb and
 #                                       rim-VERSION-aarch64-linux.tar.gz in FOLDER, by default out/
 #
-# Where dist/ has the library for a processor, librim0_VERSION_ARCH.deb and librim-dev_VERSION_ARCH.deb are made too: the shared library, for which
-# amd64 has one for x86-64-v3 beside it, which the system's loader takes by itself; and the header, the archive and rim.pc.
+# Where dist/ has the library, librim0_VERSION_ARCH.deb and librim-dev_VERSION_ARCH.deb are made too: the shared library, for which amd64 has one for
+# x86-64-v3 beside it, which the system's loader takes by itself; and the header, the archive and rim.pc. The archive has these in include/ and lib/.
 #
 # They are made of the last commit, so what is not committed is not in them; dist/ has to be of its sources. The same commit gives the
 # same bytes again, where dpkg-deb, xz, tar and gzip are of the same versions: each time is that of the commit, or SOURCE_DATE_EPOCH.
@@ -26,13 +26,9 @@ fail() {
     exit 1
 }
 
-# Whether the programs of dist/ are of the sources of this commit: each checksum holds, and there is no other source.
-is_dist_of_sources() {
-    grep -E '^[0-9a-f]{64}  ' dist/SOURCE >"$work/sums"
-    # shellcheck disable=SC2046 # the folders are words
-    find crates.txt $(find dist -name '*rim-*') $(sed -n 's/^folders //p' dist/SOURCE) -type f | sort >"$work/files"
-    cut -c 67- "$work/sums" | sort >"$work/named"
-    diff "$work/named" "$work/files" >&2 && b2sum --check --quiet "$work/sums" >&2
+# Whether dist/ has the programs, or the library, of the sources of this commit. Python keeps nothing, since all files of scripts/ are packaged.
+is_of_sources() {
+    python3 -B tools/package/dist.py --named "$1" >&2
 }
 
 # Puts a file of the commit into the tree, with a mode and at a path.
@@ -225,10 +221,24 @@ library_symbols() {
     } | sort | sed "s/.*/ &@RIM_0 $version/"
 }
 
+# What a program needs that is linked with the shared library, in a folder of the tree.
+put_shared() {
+    put 644 "dist/librim-$least.so.0" "$1/librim.so.0"
+    [ ! -f "dist/librim-$machine-v3.so.0" ] || put 644 "dist/librim-$machine-v3.so.0" "$1/glibc-hwcaps/x86-64-v3/librim.so.0"
+}
+
+# What is needed to link one: the header, and in a folder of the tree the archive and what pkg-config reads, which has this prefix.
+put_development() {
+    put 644 library/rim.h include/rim.h
+    put 644 "dist/librim-$least.a" "$1/librim.a"
+    ln -s librim.so.0 "$tree/$1/librim.so"
+    mkdir "$tree/$1/pkgconfig"
+    sed "s|@prefix@|$2|; s|@libdir@|$2/$1|; s|@version@|$version|" library/rim.pc.in >"$tree/$1/pkgconfig/rim.pc"
+}
+
 make_shared() {
     open_library librim0
-    put 644 "dist/librim-$least.so.0" "lib/$multiarch/librim.so.0"
-    [ ! -f "dist/librim-$machine-v3.so.0" ] || put 644 "dist/librim-$machine-v3.so.0" "lib/$multiarch/glibc-hwcaps/x86-64-v3/librim.so.0"
+    put_shared "lib/$multiarch"
     echo "librim 0 librim0 (>= $version)" >"$package/DEBIAN/shlibs"
     library_symbols >"$package/DEBIAN/symbols"
     echo "activate-noawait ldconfig" >"$package/DEBIAN/triggers"
@@ -238,11 +248,7 @@ make_shared() {
 
 make_development() {
     open_library librim-dev
-    put 644 library/rim.h include/rim.h
-    put 644 "dist/librim-$least.a" "lib/$multiarch/librim.a"
-    ln -s librim.so.0 "$tree/lib/$multiarch/librim.so"
-    mkdir "$tree/lib/$multiarch/pkgconfig"
-    sed "s|@prefix@|/usr|; s|@libdir@|/usr/lib/$multiarch|; s|@version@|$version|" library/rim.pc.in >"$tree/lib/$multiarch/pkgconfig/rim.pc"
+    put_development "lib/$multiarch" /usr
     [ ! -f docs/LIBRARY.md ] || put 644 docs/LIBRARY.md share/doc/librim-dev/LIBRARY.md
     library_control librim-dev libdevel "librim0 (= $version)" "measurements of Arm CCA realms, for C programs" >"$package/DEBIAN/control" <<END
 
@@ -251,12 +257,12 @@ END
     close_package
 }
 
+has_library() {
+    [ -f "dist/librim-$least.so.0" ]
+}
+
 # The packages of the library, where dist/ has it for this processor.
 make_library() {
-    least=$machine
-    [ "$machine" != x86_64 ] || least=x86_64-v2
-    multiarch=$machine-linux-gnu
-    [ -f "dist/librim-$least.so.0" ] || return 0
     for each in make_shared make_development; do
         $each
         place "$deb"
@@ -264,9 +270,15 @@ make_library() {
     done
 }
 
+# The archive may be unpacked anywhere, so pkg-config is given the place of what it reads.
 make_archive() {
     put 644 LICENSE-APACHE LICENSE-APACHE
     put 644 LICENSE-MIT LICENSE-MIT
+    if has_library; then
+        put_shared lib
+        # shellcheck disable=SC2016 # pkg-config puts in what that is
+        put_development lib '${pcfiledir}/../..'
+    fi
     set_modes "$tree"
     set_times "$tree"
     tar -C "$work" --sort=name --owner=0 --group=0 --numeric-owner --format=gnu -cf "$work/archive.tar" "${tree##*/}"
@@ -302,7 +314,9 @@ plain_git archive --format=tar -o "$work/source.tar" "$commit"
 tar -C "$work/source" --no-same-owner --no-same-permissions -xf "$work/source.tar"
 cd "$work/source"
 
-is_dist_of_sources || fail "dist/ is not of the sources of this commit: tools/package/dist.py brings it up to date"
+is_of_sources programs || fail "dist/ is not of the sources of this commit: tools/package/dist.py brings it up to date"
+[ ! -e dist/LIBRARY-SOURCE ] || is_of_sources library ||
+    fail "the library of dist/ is not of the sources of this commit: tools/package/dist.py brings it up to date"
 version=$(dist/rim-x86_64-v2 --version | cut -d ' ' -f 2)
 expr "$version" : '[0-9][0-9.]*$' >/dev/null || fail "the program's version is $version, expected a number"
 
@@ -314,6 +328,9 @@ for both in x86_64:amd64 aarch64:arm64; do
     package=$work/package-$arch
     deb=rim_${version}_$arch.deb
     archive=${tree##*/}.tar.gz
+    multiarch=$machine-linux-gnu
+    least=$machine
+    [ "$machine" != x86_64 ] || least=x86_64-v2
     put_programs
     put_documents
     put_completions
@@ -322,7 +339,7 @@ for both in x86_64:amd64 aarch64:arm64; do
     place "$deb"
     place "$archive"
     made="$made $deb $archive"
-    make_library
+    ! has_library || make_library
 done
 cd "$out"
 # shellcheck disable=SC2086 # the names are words
