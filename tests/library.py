@@ -14,6 +14,8 @@ FOLDER has the libraries that tools/package/library.py makes, as dist/ has; PROG
 - What callers may do with files, texts and null pointers: tests/library/tries.c. Eight threads at a time: threads.c. Each request for memory
   refused in turn: refused.c. The same under valgrind, and compiled with AddressSanitizer and UBSan; library/rim.c too, where ARCHIVE has the
   proved calls alone (by default crates/rim_c/out/librim_c.a, where that exists).
+- Calls about manifests that were changed, with each block of memory between pages that nobody can read: fuzz.c with guarded.c. fuzz.py makes more.
+- The archive and the shared library for arm64 are run under qemu-aarch64.
 - C++ takes the header. The C program of the document compiles and prints the program's report.
 
 What a machine has not is said, and what needs it is not asked. The last line is 'N passed, M failed'.
@@ -35,15 +37,15 @@ from collections.abc import Callable, Iterator
 from dataclasses import dataclass
 
 from helpers import PATIENCE, TOP
-from helpers.in_c import (C_FLAGS, HERE, INCLUDE, SANITIZERS, SMALL, Asked, Build, ForArm, builds, compiler, done, here, library, said_by, sanitized,
-                          sanitizing, small_files)
+from helpers.in_c import (C_FLAGS, GUARDED, HERE, INCLUDE, SANITIZERS, SMALL, VALGRIND, WRAPPED, Asked, Build, ForArm, builds, compiler, done, fuzzed_files,
+                          here, library, said_by, sanitized, sanitizing, small_files)
 from helpers.rows import all_runs, contents, difference, write
 from helpers.tries import Outcome, at_a_time, differs, told
 
 CODES = pathlib.Path(TOP, "crates", "rim_calls", "src", "codes.rt")
 PAGES = (pathlib.Path(TOP, "docs", "LIBRARY.md"),)
-REFUSING = ["-Wl,--wrap=malloc,--wrap=realloc,--wrap=free"]
-VALGRIND = ["valgrind", "-q", "--error-exitcode=99", "--leak-check=full", "--errors-for-leak-kinds=definite,indirect,possible"]
+# How many calls are made with guarded memory, each way.
+GUARDED_CALLS = 1000
 OF_LAUNCH, OF_MANIFEST, OF_FILE = ("list", "trace", "map", "dtb"), ("measure", "audit", "check"), ("replay", "image", "fdt")
 EXAMPLE, LAUNCH = "examples/vm/manifest.toml", "one-vcpu"
 EXAMPLES = ["examples/vm/manifest.toml", "examples/kernel/manifest.toml", "examples/first/manifest.toml"]
@@ -180,7 +182,7 @@ def refused_of(build: Build, program: str, words: list[str], folder: pathlib.Pat
 
 def refused(asked: Asked, build: Build) -> list[str]:
     """With each request for memory refused in turn."""
-    program, folder = build.build(asked, "refused", *REFUSING), asked.made / "small"
+    program, folder = build.build(asked, "refused", *WRAPPED), asked.made / "small"
     folder.mkdir(exist_ok=True)
     small_files(folder)
     (folder / "listing").write_bytes(done([asked.program, "list", "of-all-kinds.toml", "a"], folder=folder))
@@ -326,6 +328,29 @@ def cases(asked: Asked, builds_here: list[Build]) -> Iterator[Outcome]:
         yield from ((f"{name}, by {build.name}", wrong) for name, wrong in came if wrong is not None)
 
 
+# ---- guarded memory
+
+BELOW = {"GUARDED_BELOW": "1"}
+
+
+def guards(asked: Asked) -> list[str]:
+    """guarded.c sees each way to misuse a block."""
+    program = str(asked.made / "guards")
+    done([compiler(), *C_FLAGS, str(HERE / "guarded.c"), str(HERE / "guarded_tries.c"), *WRAPPED, "-o", program])
+    return [line for below in ({}, BELOW) for line in ends_well(here([program], env=os.environ | below), r"[1-9]\d* as they should be, 0 not")]
+
+
+def guarded(asked: Asked, build: Build) -> list[str]:
+    """Calls about changed manifests, with blocks that end where a page does, and with such that begin there."""
+    program, folder = build.build(asked, "fuzz", *GUARDED), asked.made / "fuzzed"
+    folder.mkdir()
+    manifests, wrong = fuzzed_files(folder), []
+    for seed, below in enumerate(({}, BELOW)):
+        ran = here([program, seed, GUARDED_CALLS, *manifests], folder, env=os.environ | below)
+        wrong += ends_well(ran, rf"{GUARDED_CALLS} calls, 0 wrong: [1-9]\d* answered, [1-9]\d* refused")
+    return wrong
+
+
 # ---- valgrind and sanitizers
 
 
@@ -396,6 +421,7 @@ def plain_parts(asked: Asked) -> Iterator[Part]:
     yield "the codes", lambda: codes(asked)
     if compiler():
         yield "what is passed on", lambda: passing(asked)
+        yield "guards", lambda: guards(asked)
     else:
         asked.not_asked("there is no C compiler")
 
@@ -411,6 +437,7 @@ def named_parts(asked: Asked, builds_here: list[Build]) -> Iterator[Part]:
         yield f"threads, {build.name}", functools.partial(threads, asked, build)
     first = builds_here[0]
     yield "requests refused", lambda: refused(asked, first)
+    yield "guarded memory", lambda: guarded(asked, first)
     yield "the document's program", lambda: page(asked, builds_here[1])
     if shutil.which("c++") or shutil.which("g++"):
         yield "C++", lambda: header_in_cpp(asked, first)

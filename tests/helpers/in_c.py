@@ -22,6 +22,12 @@ HERE = pathlib.Path(TOP, "tests", "library")
 INCLUDE = pathlib.Path(TOP, "library")
 C_FLAGS = ["-std=c11", "-D_GNU_SOURCE", "-Wall", "-Wextra", "-Werror", "-O1", "-g", "-pthread", f"-I{INCLUDE}"]
 SANITIZERS = ["-fsanitize=address,undefined", "-fno-sanitize-recover=undefined", "-fno-omit-frame-pointer"]
+VALGRIND = ["valgrind", "-q", "--error-exitcode=99", "--leak-check=full", "--errors-for-leak-kinds=definite,indirect,possible"]
+# By these words the library and a test take their memory of functions that the test has, and by these of guarded.c.
+WRAPPED = ["-Wl,--wrap=malloc,--wrap=realloc,--wrap=free"]
+GUARDED = [str(HERE / "guarded.c"), "-DGUARDED", *WRAPPED]
+# What fuzz.c changes, beside what is small.
+FUZZED = ("examples/first/manifest.toml", "examples/kernel/manifest.toml", "examples/vm/manifest.toml")
 
 
 @dataclass
@@ -125,34 +131,58 @@ class Build:
 
 @dataclass(frozen=True)
 class ForArm(Build):
-    """The same for arm64, by the kit's compiler and linker."""
+    """The same for arm64, by the kit's compiler and linker, with the C library and the archive linked in."""
 
     def make(self, name: str, out: str, *more: str):
         headers = [word for path in native.ARM64_HEADERS for word in ("-isystem", path)]
         objects = [f"{out}.{source}.o" for source in (name, "given")]
         for source, to in zip((name, "given"), objects):
             done([*self.words, "-nostdinc", *headers, *C_FLAGS, "-fPIC", "-c", str(HERE / f"{source}.c"), "-o", to])
-        linker = str(native.kit() / "toolchain/bin/ld.lld")
-        done([linker, "-m", native.ARM64.emulation, "-r", "-o", f"{out}.o", *objects, "--whole-archive", *self.linked])
+        self.link([str(native.kit() / "toolchain/bin/ld.lld"), "-m", native.ARM64.emulation], objects, out)
+
+    def link(self, linker: list[str], objects: list[str], out: str):
+        done([*linker, "-r", "-o", f"{out}.o", *objects, "--whole-archive", *self.linked])
         native.link(native.TARGETS[2], pathlib.Path(f"{out}.o"), pathlib.Path(out))
 
 
-def shared_build(asked: Asked, name: str, cc: str) -> Build:
-    """Programs find the shared library by its name in a folder of its own."""
+@dataclass(frozen=True)
+class SharedForArm(ForArm):
+    """The same with the shared library, which the loader of arm64 finds, as it does the C library."""
+
+    def link(self, linker: list[str], objects: list[str], out: str):
+        libc, gcc = native.ARM64.packages
+        done([*linker, "-pie", "--dynamic-linker", "/lib/ld-linux-aarch64.so.1", "-z", "now", "-o", out, libc.path("Scrt1.o"), libc.path("crti.o"),
+              gcc.path("crtbeginS.o"), *objects, *self.linked, gcc.path("libgcc.a"), libc.path("libc.so.6"), libc.path("libc_nonshared.a"),
+              libc.path("ld-linux-aarch64.so.1"), gcc.path("crtendS.o"), libc.path("crtn.o")])
+
+
+def found_in(asked: Asked, name: str) -> tuple[tuple[str, ...], tuple[tuple[str, str], ...]]:
+    """The linker's words for the shared library, and the variables by which programs find it: by its name in a folder of its own."""
     folder = asked.made / name
     folder.mkdir()
     (folder / library.SONAME).symlink_to(asked.shared(name).resolve())
     (folder / "librim.so").symlink_to(library.SONAME)
-    return Build(f"shared-{name}", (cc,), (f"-L{folder}", "-lrim"), (), (("LD_LIBRARY_PATH", str(folder)),))
+    return (f"-L{folder}", "-lrim"), (("LD_LIBRARY_PATH", str(folder)),)
 
 
-def arm_build(asked: Asked) -> Build | None:
-    qemu, archive = shutil.which("qemu-aarch64"), asked.archive("aarch64")
-    want = native.wanting(native.TARGETS[2]) or ("" if qemu else "qemu-aarch64 is not installed: apt-get install qemu-user")
-    if want or not archive.is_file() or not shutil.which("rt"):
-        asked.not_asked(f"the library for arm64: {want or ('the kit is not here' if archive.is_file() else f'there is no {archive.name}')}")
-        return None
-    return ForArm("aarch64", (str(native.kit() / "toolchain/bin/clang"), f"--target={native.ARM64.triple}"), (str(archive),), (qemu,))
+def shared_build(asked: Asked, name: str, cc: str) -> Build:
+    linked, environment = found_in(asked, name)
+    return Build(f"shared-{name}", (cc,), linked, (), environment)
+
+
+def arm_builds(asked: Asked) -> list[Build]:
+    """The ways to build for arm64, where these programs can be run."""
+    name, qemu = "aarch64", shutil.which("qemu-aarch64")
+    missing = [path.name for path in (asked.archive(name), asked.shared(name)) if not path.is_file()]
+    want = native.wanting(native.TARGETS[2]) or native.wanting(library.LIBRARIES[2])
+    want = want or ("" if qemu else "qemu-aarch64 is not installed: apt-get install qemu-user") or ("" if shutil.which("rt") else "the kit is not here")
+    if want or missing:
+        asked.not_asked(f"the library for arm64: {f'there is no {missing[0]}' if missing else want}")
+        return []
+    words = (str(native.kit() / "toolchain/bin/clang"), f"--target={native.ARM64.triple}")
+    linked, environment = found_in(asked, name)
+    start = (qemu, "-L", str(pathlib.Path(native.ARM64.libc.folder).parent))
+    return [ForArm(f"static-{name}", words, (str(asked.archive(name)),), start), SharedForArm(f"shared-{name}", words, linked, start, environment)]
 
 
 def builds(asked: Asked) -> list[Build]:
@@ -166,8 +196,7 @@ def builds(asked: Asked) -> list[Build]:
             asked.not_asked("the libraries for x86_64-v3: this processor is of an earlier level")
         else:
             found += [Build(f"static-{name}", (cc,), (str(asked.archive(name)),)), shared_build(asked, name, cc)]
-    arm = arm_build(asked)
-    return found + ([arm] if arm else [])
+    return found + arm_builds(asked)
 
 
 def sanitized(asked: Asked) -> Build:
@@ -221,3 +250,10 @@ def small_files(folder: pathlib.Path):
     files |= {"kernel": image(1 << 20, length=3 * 4096), "tree": tree([(0x40000000, 0x40800000)], length=None), "initrd": b"initrd" * 999}
     for name, data in files.items():
         (folder / name).write_bytes(data)
+
+
+def fuzzed_files(folder: pathlib.Path) -> list[str]:
+    """Writes what fuzz.c changes into a folder; the manifests."""
+    (folder / "examples").symlink_to(pathlib.Path(TOP, "examples"))
+    small_files(folder)
+    return [*FUZZED, *SMALL]

@@ -5,14 +5,17 @@
    COUNT calls are made, each about a manifest that was changed at some places. SEED and the call's number alone decide which, so a run can be made
    again. A line of what is wrong has the number of the call. With FUZZ_ONLY=NUMBER in the environment that call alone is made, and its manifest is
    written to standard output. Each call is looked at as call.c does: its code is one of rim.h, what is said belongs to it, and no other byte is
-   written. The last line is `N calls, M wrong: A answered, R refused`. */
+   written. With GUARDED, for a program with guarded.c, what ends by a signal says in which call. The last line is
+   `N calls, M wrong: A answered, R refused`. */
 #include "given.h"
 
+#include <signal.h>
 #include <stdint.h>
 #include <stdio.h>
 #include <stdlib.h>
 #include <string.h>
 #include <time.h>
+#include <unistd.h>
 
 enum { MANIFESTS = 32, MOST = 1 << 16, SLOW = 10 };
 
@@ -170,7 +173,19 @@ static bool call(long number, const struct given *given) {
     return is_answer(ended.code);
 }
 
+static long last_call;
+
+#ifdef GUARDED
+/* Says it, and lets the signal end the program. */
+static void say_call(int number) {
+    dprintf(STDERR_FILENO, "signal %d in call %ld\n", number, last_call);
+    signal(number, SIG_DFL);
+    raise(number);
+}
+#endif
+
 static bool call_changed(uint64_t seed, long number) {
+    last_call = number;
     state = seed * 0x9e3779b97f4a7c15 + (uint64_t)number * 0xbf58476d1ce4e5b9 + 1;
     for (int i = 0; i < 8; i++)
         next();
@@ -195,6 +210,10 @@ static bool read_manifests(char **paths) {
 }
 
 int main(int count, char **words) {
+#ifdef GUARDED
+    signal(SIGSEGV, say_call);
+    signal(SIGABRT, say_call);
+#endif
     const char *only = getenv("FUZZ_ONLY");
     if (count < 4 || !read_manifests(words + 3))
         return 2;
