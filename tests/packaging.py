@@ -120,8 +120,8 @@ int main(void) {
 
 
 def linked(tree: pathlib.Path, usr: str, lib: str, version: str) -> list[str]:
-    """What is wrong with a program that is linked with the library that is unpacked in a folder of a tree, by the words of pkg-config, and with the
-    archive. Only what is in its place in a system needs to be told where that system is."""
+    """What is wrong with a program that is linked with the library in a folder of a tree, by the words of pkg-config, and with the archive. A package is
+    unpacked as into a system, whose place pkg-config is given; an archive finds its own."""
     top, source, program = tree / usr, tree / "version.c", tree / "version"
     source.write_text(SAYS_VERSION)
     environment = os.environ | {"PKG_CONFIG_PATH": str(top / lib / "pkgconfig"), "LD_LIBRARY_PATH": str(top / lib)}
