@@ -1,6 +1,6 @@
 #!/usr/bin/env python3
-"""Starts the script by whose name it is called: `rim-manifest`, `rim-match`, `rim-compare`, `rim-verify` and `rim-endorse` are links to
-this file, and copies of it where they are installed. The modules of a script are in the folder scripts beside it, or in ../share/rim where it is installed.
+"""Starts the script by whose name it is called: `rim-manifest`, `rim-match`, `rim-compare`, `rim-page`, `rim-verify` and
+`rim-endorse` are links to this file, and copies of it where they are installed. The modules of a script are in the folder scripts beside it, or in ../share/rim where it is installed.
 
 It is read by older versions of Python too, so that they can say that they are; the modules are not.
 """
@@ -14,6 +14,7 @@ SCRIPTS = {
     "rim-manifest": (("vmm", "main"), ("finder", "search"), ("outside", "ending")),
     "rim-match": (("matcher", "main"), ("finder", "search"), ("comparer", "report"), ("outside", "ending")),
     "rim-compare": (("comparer", "main"), ("outside", "ending")),
+    "rim-page": (("page", "main"), ("comparer", "report"), ("finder", "progress"), ("matcher", "nearest"), ("outside", "ending")),
     "rim-verify": (("verifier", "main"), ("comparer", "report"), ("outside", "cbor")),
     "rim-endorse": (("endorser", "main"), ("comparer", "report"), ("outside", "cbor")),
 }

@@ -7,7 +7,7 @@ from collections.abc import Callable, Iterator, Mapping
 from dataclasses import dataclass, replace
 from typing import Union
 
-from outside.texts import quoted
+from outside.texts import quoted, shown
 
 from .report import STATED_SIZE, Content, Inputs, Report, Value
 
@@ -186,3 +186,11 @@ def differences(was: Report, now: Report) -> Iterator[Difference]:
         yield with_inputs(each, was, now)
     if was.files is not None and now.files is not None:
         yield from of_all("file", was.files, now.files, of_content)
+
+
+def notes(was: Report, now: Report) -> list[str]:
+    """What is said of two reports and is no difference."""
+    if was.program is None or now.program is None:
+        versions = f"the kept report has version {was.version}, the other one version {now.version}"
+        return [f"{versions}: values alone are compared, since versions 1 and 2 have no files"]
+    return [f"the program is {shown(now.program)}, was {shown(was.program)}"] * (was.program != now.program)

@@ -4,17 +4,16 @@ from __future__ import annotations
 import functools
 import json
 import os
-import re
 import sys
 
 from outside import ending, files, programs
 from outside.faults import Fault, WrongWords
 from outside.programs import Limits
 from outside.rim import Rim
-from outside.texts import pasted, shown, visible
+from outside.texts import pasted
 from outside.words import END, VERSION, Known, no_option, walk
 
-from . import differ, report
+from . import differ, folders, report
 from .report import Report
 
 # The longest report, and the longest manifest, that is read.
@@ -42,8 +41,6 @@ Status: 0 nothing differs; 1 something differs; 2 wrong words; 3 a fault.
 HELP_HINT = "expected REPORT and what it is compared with; see rim-compare --help"
 ALONE = {"-h": ABOUT, "--help": ABOUT, "-V": f"rim-compare {VERSION}\n", "--version": f"rim-compare {VERSION}\n"}
 KNOWN = Known(dict.fromkeys((*ALONE, "--json"), "") | {"--kept": "a report"}, no_option("rim-compare"))
-# The manifests that rim-manifest writes into a folder, and the most of them.
-IN_FOLDER, MOST_MANIFESTS = re.compile(r"manifest(?:-([0-9]{1,4}))?\.toml"), 1024
 # The version of what --json prints: 1 had no inputs and no personalization values.
 JSON_VERSION = 2
 
@@ -67,11 +64,7 @@ def measured(path: str, folder: str | None = None) -> Report:
 
 def of_folder(path: str) -> list[Report]:
     """The reports of the manifests of a folder that rim-manifest has made, in their order."""
-    with files.faults_of(path, "a folder of rim-manifest"):
-        found = sorted((int(named[1] or 0), named[0]) for named in map(IN_FOLDER.fullmatch, os.listdir(path)) if named)
-    if not 1 <= len(found) <= MOST_MANIFESTS:
-        raise Fault(f"{visible(path)}: it has {len(found)} manifests, expected a folder of rim-manifest with 1 to {MOST_MANIFESTS}")
-    return [measured(name, path) for _, name in found]
+    return [measured(name, path) for name in folders.manifests_in(path)]
 
 
 def others(path: str) -> list[Report]:
@@ -81,14 +74,6 @@ def others(path: str) -> list[Report]:
         return of_folder(path)
     data = files.read(path, MOST, "a report, a manifest or a folder of rim-manifest")
     return [report.read(data, path) if data.lstrip().startswith(b"{") else measured(path)]
-
-
-def notes(was: Report, now: Report) -> list[str]:
-    """What is said and is no difference."""
-    if was.program is None or now.program is None:
-        versions = f"the kept report has version {was.version}, the other one version {now.version}"
-        return [f"{versions}: values alone are compared, since versions 1 and 2 have no files"]
-    return [f"the program is {shown(now.program)}, was {shown(was.program)}"] * (was.program != now.program)
 
 
 def run(words: list[str]) -> int:
@@ -106,7 +91,7 @@ def run(words: list[str]) -> int:
     kept = [operands[0], *(value for option, value in said if option == "--kept")]
     was = report.joined([report.read(files.read(path, MOST, report.WHAT), path) for path in kept])
     now = report.joined([each for path in operands[1:] for each in others(path)])
-    noted, found = notes(was, now), list(differ.differences(was, now))
+    noted, found = differ.notes(was, now), list(differ.differences(was, now))
     for note in noted:
         print(f"rim-compare: {note}", file=sys.stderr)
     if any(option == "--json" for option, _ in said):

@@ -213,7 +213,12 @@ def joined(reports: Sequence[Report]) -> Report:
 
 def read(data: bytes, path: str) -> Report:
     """The report in some bytes, which came from a file or a program at a path."""
+    return of_table(files.json_of(path, data, WHAT), path)
+
+
+def of_table(table: object, path: str) -> Report:
+    """The report that some JSON is, which came from a path."""
     try:
-        return report_of(files.json_of(path, data, WHAT))
+        return report_of(table)
     except Malformed as why:
         raise Fault(f"{visible(path)}: {why}, expected {WHAT}") from None

@@ -1,6 +1,7 @@
 """Files: read with limits, and written with their path in each fault. What a file says is read as TOML or JSON without traps."""
 from __future__ import annotations
 
+import hashlib
 import importlib
 import json
 import os
@@ -62,6 +63,15 @@ def head(path: str, count: int, what: str = "a file") -> bytes:
         return file.read(count)
 
 
+def digest(path: str, what: str = "a file", step: int = 1 << 20) -> str:
+    """The SHA-256 digest of a file, in hexadecimal digits. Not all of it is held at once."""
+    found = hashlib.sha256()
+    with faults_of(path, what), open(opened(path, what), "rb") as file:
+        while part := file.read(step):
+            found.update(part)
+    return found.hexdigest()
+
+
 def size_of(path: str, what: str = "a file") -> int:
     """How many bytes a file has."""
     with faults_of(path, what), open(opened(path, what), "rb") as file:
@@ -74,6 +84,30 @@ def write(path: str, data: bytes, name: str = "", length: int | None = None):
         file.write(data)
         if length is not None:
             file.truncate(length)
+
+
+def may_be_made(path: str, is_forced: bool) -> str:
+    """Where a file is that `put` is to make. One that is there already is a fault, unless it may be replaced."""
+    if os.path.lexists(path) and not is_forced:
+        raise Fault(f"{visible(path)}: it exists, expected a new file, or --force")
+    folder = os.path.dirname(os.path.abspath(path))
+    if not os.access(folder, os.W_OK) or os.path.isdir(path):
+        raise Fault(f"{visible(path)}: it cannot be made, expected a file in a folder that can be written")
+    return os.path.realpath(path)
+
+
+def put(path: str, data: bytes, mode: int | None = None):
+    """Writes the file whole, or not at all; with a mode where one is given."""
+    meanwhile = f"{path}.{os.getpid()}"
+    try:
+        write(meanwhile, data, path)
+        with faults_of(path, "that it can be written"):
+            if mode is not None:
+                os.chmod(meanwhile, mode)
+            os.replace(meanwhile, path)
+    finally:
+        if os.path.lexists(meanwhile):
+            os.remove(meanwhile)
 
 
 def copy(path: str, new: str, length: int, step: int = 1 << 18):

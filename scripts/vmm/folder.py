@@ -28,8 +28,6 @@ RECORD_VERSION = 2
 MOST_RECORD = 64 << 20
 # How many names a fault has.
 MOST_NAMES = 5
-# How many bytes of a file are read at a time.
-PART = 1 << 20
 # What measures: it is taken away first and put in its place last.
 MEASURES = re.compile(r"manifest(-[0-9]+)?\.toml|measure")
 
@@ -184,15 +182,10 @@ def is_name(name: str) -> bool:
 def digest_of(path: str) -> str:
     """The digest of a file, or nothing where it is absent or no file."""
     try:
-        if not stat.S_ISREG(os.lstat(path).st_mode):
-            return ""
-        with open(files.opened(path, "a file"), "rb") as file:
-            digest = hashlib.sha256()
-            while part := file.read(PART):
-                digest.update(part)
-            return digest.hexdigest()
+        is_file = stat.S_ISREG(os.lstat(path).st_mode)
     except OSError:
         return ""
+    return files.digest(path) if is_file else ""
 
 
 def is_another(path: str, digests: set[str]) -> bool:

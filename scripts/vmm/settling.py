@@ -292,24 +292,7 @@ def not_found_lines(outcome: Outcome, cases: Sequence[Case]) -> list[str]:
 
 def check_out(said: dict) -> str:
     path = words.required(said, "out", "--out", "the file about the host that is written")
-    if os.path.lexists(path) and "force" not in said:
-        raise Fault(f"{visible(path)}: it exists, expected a new file, or --force")
-    folder = os.path.dirname(os.path.abspath(path))
-    if not os.access(folder, os.W_OK) or os.path.isdir(path):
-        raise Fault(f"{visible(path)}: it cannot be made, expected a file in a folder that can be written")
-    return os.path.realpath(path)
-
-
-def put(path: str, data: bytes):
-    """Writes the file whole, or not at all."""
-    meanwhile = f"{path}.{os.getpid()}"
-    try:
-        files.write(meanwhile, data, path)
-        with files.faults_of(path, "that it can be written"):
-            os.replace(meanwhile, path)
-    finally:
-        if os.path.lexists(meanwhile):
-            os.remove(meanwhile)
+    return files.may_be_made(path, "force" in said)
 
 
 def verify(maker: Maker, given: Sequence[Given], cases: Sequence[Case], path: str):
@@ -372,7 +355,7 @@ def search(maker: Maker, given: Sequence[Given], cases: list[Case], rows: Mappin
     files.write(path, made.encode())
     verify(maker, given, cases, path)
     print("\n".join(found_lines(outcome, outcome.settled, rows, cases)), flush=True)
-    put(out, made.encode())
+    files.put(out, made.encode())
     return 0
 
 

@@ -1,0 +1,51 @@
+"""The table of all launches of a page, which can be sorted and searched where scripts are run."""
+from __future__ import annotations
+
+from collections.abc import Mapping
+
+from comparer.report import Value
+
+from .changes import Changes
+from .markup import MOST_LINE, MOST_PATH, code, count_of, digits, element, escaped, scrolled, size_of
+from .names import link
+from .reading import Launch
+
+# The heads of the columns; those of numbers are sorted as such.
+HEADS = ("Name", "Kernel", "Memory", "Processors", "Command line", "Algorithm", "Value", "Warnings")
+NUMBERS = (2, 3)
+SEARCH = ('<div class="tools"><label for="search">Search the launches</label> <input id="search" type="search" autocomplete="off" '
+          'spellcheck="false"> <span id="found" role="status"></span></div>')
+
+
+def value_of(value: Value) -> str:
+    """The value of a launch, or that it is refused and why, in a word."""
+    return f'<span class="no">refused: {escaped(value.refused)}</span>' if value.refused else digits(value.digits)
+
+
+def processors(launch: Launch) -> str:
+    """How many RECs a launch has, and how many of them may be run where that are fewer."""
+    return launch.inputs.own["RECs"].partition(",")[0]
+
+
+def row(launch: Launch, ids: Mapping[str, str], changes: Changes | None) -> str:
+    """The row of a launch."""
+    here = launch.map
+    kernel = here.of_kind("kernel")
+    warnings = f'<span class="warned">{count_of(len(here.warnings), "warning")}</span>' if here.warnings else ""
+    cells = ["<td>" + (code(kernel.file, MOST_PATH) if kernel is not None and kernel.file is not None else "none") + "</td>",
+             f'<td class="num" data-n="{here.ram}">{size_of(here.ram) if here.ram else "none"}</td>',
+             f'<td class="num" data-n="{here.recs}">{processors(launch)}</td>',
+             "<td>" + ("none" if launch.command_line is None else code(launch.command_line, MOST_LINE)) + "</td>",
+             f"<td>{escaped(launch.value.algorithm)}</td>", f'<td class="value">{value_of(launch.value)}</td>', f"<td>{warnings}</td>"]
+    cells += [f"<td>{changes.word_of(launch.name)}</td>"] if changes is not None else []
+    return f'<tr data-of="{ids[launch.name]}"><th scope="row">{link(launch.name, ids)}</th>{"".join(cells)}</tr>\n'
+
+
+def table(launches: tuple[Launch, ...], ids: Mapping[str, str], changes: Changes | None) -> str:
+    """The table with what searches it."""
+    heads = (*HEADS, *(["Change"] if changes is not None else []))
+    head = "".join(f'<th scope="col"{" data-kind=num" if at in NUMBERS else ""}>{each}</th>' for at, each in enumerate(heads))
+    body = "".join(row(each, ids, changes) for each in launches)
+    caption = "<caption>Each launch with its value. A name leads to the launch’s own part.</caption>"
+    whole = element("table", f"{caption}<thead><tr>{head}</tr></thead><tbody>\n{body}</tbody>", id="launches")
+    return SEARCH + scrolled("Launches", whole)

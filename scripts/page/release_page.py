@@ -1,0 +1,87 @@
+"""The page of a release: what is wrong and odd first, then what changed, the launches, the files, and each launch by itself."""
+from __future__ import annotations
+
+from collections.abc import Mapping
+
+from comparer.report import Report
+from outside.texts import visible
+
+from . import changes, launch_part, launches, whole
+from .changes import Changes
+from .markup import code, count_of, digits, escaped, listed, table
+from .names import ids_of, link, links, rest
+from .reading import Checked, Launch, Release, Source
+
+
+def place_of(source: Source) -> str:
+    """A manifest, and the folder in which `rim` was started for it."""
+    return code(source.path) + (f" in {code(source.folder)}" if source.folder else "")
+
+
+def manifests(checked: tuple[Checked, ...]) -> str:
+    """The manifests with their digests."""
+    rows = [[place_of(each.source), f"{each.length:,}", digits(each.digest)] for each in checked]
+    return table("The manifests that this page is of", ["Manifest", "Bytes", "SHA-256"], rows)
+
+
+def files(report: Report) -> str:
+    """The files of all manifests with their digests."""
+    rows = [[code(path), f"{content.length:,}", digits(content.digest)] for path, content in (report.files or {}).items()]
+    return "<h2>Files</h2>" + (table("All files that the manifests name", ["File", "Bytes", "SHA-256"], rows) if rows else "<p>None.</p>") + "\n"
+
+
+# ---- what is wrong, and what is odd
+
+
+def refusals(some: tuple[Launch, ...], ids: Mapping[str, str]) -> str:
+    """The launches that are refused, each with why."""
+    lines = [f"{link(each.name, ids)}: {escaped(rest(each.map.refusal, each.name))}" for each in some if each.value.refused]
+    several = "Launches that are refused and have no value" if len(lines) > 1 else "A launch is refused and has no value"
+    return f'<section class="bad"><h2>{several}</h2>{listed(lines)}</section>\n' if lines else ""
+
+
+def warnings(some: tuple[Launch, ...], ids: Mapping[str, str]) -> str:
+    """What is rarely meant, once each, with the launches of which it is said."""
+    found: dict[str, list[str]] = {}
+    for launch in some:
+        for line in launch.map.warnings:
+            found.setdefault(rest(line, launch.name), []).append(launch.name)
+    lines = [f"{escaped(said)}: {links(names, ids)}" for said, names in found.items()]
+    return f'<section class="odd"><h2>Warnings: what is rarely meant</h2>{listed(lines)}</section>\n' if lines else "<p>There are no warnings.</p>\n"
+
+
+def counted(some: tuple[Launch, ...]) -> str:
+    """How many launches have a value, are refused, have warnings."""
+    refused = sum(1 for each in some if each.value.refused)
+    odd = sum(1 for each in some if each.map.warnings)
+    have = len(some) - refused
+    said = [f"{count_of(len(some), 'launch', 'launches')}: {have:,} {'has' if have == 1 else 'have'} a value"]
+    said += [f"{refused:,} {'is' if refused == 1 else 'are'} refused"] * bool(refused)
+    said += [f"{odd:,} {'has' if odd == 1 else 'have'} warnings"] * bool(odd)
+    return ", ".join(said)
+
+
+def title_of(release: Release) -> str:
+    paths = [visible(each.source.path) for each in release.checked]
+    return ", ".join(paths[:3]) + (f" and {len(paths) - 3} more" if len(paths) > 3 else "")
+
+
+def without_values(release: Release) -> str:
+    """The page of a release of which a manifest is at fault: nothing is measured, and the page says so before all else."""
+    lines = [escaped(line) + (f" (in {code(each.source.folder)})" if each.source.folder else "") for each in release.checked for line in each.faults]
+    head = f'<div class="bad"><h1>No values: {escaped(title_of(release))}</h1><p><strong>Nothing was measured, since this is wrong:</strong></p>'
+    content = [f"{head}{listed(lines)}</div>", f"<p>Computed by {escaped(release.program)}.</p>", manifests(release.checked)]
+    return whole.page(f"NO VALUES: {escaped(title_of(release))}", "\n".join(content) + "\n")
+
+
+def page(release: Release, since: Changes | None) -> str:
+    """The page of a release."""
+    if not release.is_whole:
+        return without_values(release)
+    some, ids = release.launches, ids_of(each.name for each in release.launches)
+    pictures = launch_part.Pictures()
+    content = [f"<h1>{escaped(title_of(release))}</h1>\n<p>{counted(some)}. Computed by {escaped(release.program)}.</p>\n", manifests(release.checked),
+               refusals(some, ids), warnings(some, ids), changes.part(since, ids) if since is not None else "",
+               "<h2>Launches</h2>\n", launches.table(some, ids, since), files(release.report) if release.report is not None else "",
+               whole.how_to_read(), "<h2>Each launch</h2>\n", *(launch_part.part(each, ids, since, pictures) for each in some)]
+    return whole.page(f"{escaped(title_of(release))}: {counted(some)}", "".join(content))
