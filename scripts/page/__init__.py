@@ -2,6 +2,7 @@
 
 words         the words of the command line
 reading       what is asked of `rim`: faults, the report, maps, command lines; all of one content
+pieces        a manifest of each launch by itself, where there are many
 maps          a map as `rim map --json` prints it
 markup        elements as texts, and how texts of others are escaped
 names         where the part of a launch is in a page, and how lines of `rim` name launches

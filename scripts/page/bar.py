@@ -3,7 +3,7 @@ from __future__ import annotations
 
 from .maps import Map
 from .markup import count_of, element
-from .picture import rect
+from .picture import box, path
 
 # The members of a map's extensions, with what each counts in words: of one, and of several.
 PARTS = (("realms", "realm", "realms"), ("ripas", "block of RAM", "blocks of RAM"), ("pages", "page with contents", "pages with contents"),
@@ -25,7 +25,7 @@ def bar(here: Map) -> str:
     room, left, drawn = WIDTH - LEAST * len(some), 0.0, []
     for at, count, _ in some:
         right = left + LEAST + room * count / whole
-        drawn.append(rect(f"e{at}", left, 0, right, HEIGHT))
+        drawn.append(path(f"e{at}", box(left, 0, right, HEIGHT)))
         left = right
     # the list after it says the same
     picture = element("svg", "".join(drawn), class_="bar", viewBox=f"0 0 {WIDTH} {HEIGHT}", preserveAspectRatio="none", aria_hidden="true")
@@ -35,9 +35,8 @@ def bar(here: Map) -> str:
 
 def granules(here: Map) -> str:
     """What the granules of the pool become, in words."""
-    of, levels = here.granules, here.tables
-    tables = ", ".join(count_of(count, f"table of level {level + 1}", f"tables of level {level + 1}") for level, count in enumerate(levels) if count)
-    some = [count_of(of.get("start_tables", 0), "table to begin with", "tables to begin with"), tables,
-            count_of(of.get("descriptors", 0), "realm descriptor"), count_of(of.get("pages", 0), "page"), count_of(of.get("recs", 0), "REC"),
-            count_of(of.get("auxiliary", 0), "auxiliary granule")]
-    return f"{of.get('delegated', 0):,} of the pool: {', '.join(filter(None, some))}"
+    of = here.granules
+    levels = "".join(f", {count:,} of level {level}" for level, count in enumerate(here.tables, 1) if count)
+    others = (("descriptors", "descriptor"), ("pages", "page"), ("recs", "REC"), ("auxiliary", "auxiliary granule"))
+    some = [count_of(of[key], what) for key, what in others if of.get(key)]
+    return f"{of.get('delegated', 0):,} of the pool: tables: {of.get('start_tables', 0):,} to begin with{levels}; {', '.join(some)}"

@@ -61,7 +61,7 @@ class Changes:
     def word_of(self, name: str) -> str:
         """How a launch differs, in a word."""
         each = self.launches.get(name)
-        return "" if each is None else f'<span class="warned">{WORDS[each.kind]}</span>'
+        return "" if each is None else f"<b>{WORDS[each.kind]}</b>"
 
     def lines_of(self, name: str) -> list[str]:
         """How a launch differs, and what of all that it is made of; nothing where nothing does."""

@@ -35,7 +35,7 @@ class Pictures:
 def figure(launch: Launch, pictures: Pictures) -> str:
     """The map of a launch. The table of its items says the same in words."""
     drawn = picture.drawn(launch.map)
-    said = f"{escaped(drawn.title)}: {escaped('; '.join(drawn.lines[:len(launch.map.regions) or 1]))}. The table of items says where each is."
+    said = f"Map of {escaped(launch.name)}: see the table of items"
     content = f"<title>{said}</title>{pictures.of(drawn.content)}"
     return f"<figure>{element('svg', content, class_='map', viewBox=f'0 0 {picture.WIDTH} {drawn.height}', role='img')}</figure>"
 
@@ -68,11 +68,11 @@ def part(launch: Launch, ids: Mapping[str, str], changes: Changes | None, pictur
     """The whole part."""
     here = launch.map
     head = f"<h3>{escaped(launch.name)}</h3>"
-    value = f'<p class="value">{escaped(launch.value.algorithm)} {value_of(launch.value)}</p>'
+    value = f"<p>{escaped(launch.value.algorithm)} {value_of(launch.value)}</p>"
     refused = f'<div class="bad"><strong>Refused, no value:</strong> {escaped(rest(here.refusal, launch.name))}</div>' if here.refusal else ""
     odd = listed([escaped(rest(each, launch.name)) for each in here.warnings], class_="odd")
     changed = listed(changes.lines_of(launch.name), class_="odd") if changes is not None else ""
     made = bar(here) if here.extensions else ""
-    back = '<p class="back"><a href="#launches">To the table of launches</a></p>'
+    back = '<a class="back" href="#launches">All launches</a>'
     content = "\n".join(filter(None, [head, value, refused, odd, changed, figure(launch, pictures), made, parameters(launch), items(launch), back]))
     return element("section", content, id=ids[launch.name], class_="launch") + "\n"

@@ -19,26 +19,21 @@ SEARCH = ('<div class="tools"><label for="search">Search the launches</label> <i
 
 def value_of(value: Value) -> str:
     """The value of a launch, or that it is refused and why, in a word."""
-    return f'<span class="no">refused: {escaped(value.refused)}</span>' if value.refused else digits(value.digits)
-
-
-def processors(launch: Launch) -> str:
-    """How many RECs a launch has, and how many of them may be run where that are fewer."""
-    return launch.inputs.own["RECs"].partition(",")[0]
+    return f'<em>refused: {escaped(value.refused)}</em>' if value.refused else digits(value.digits)
 
 
 def row(launch: Launch, ids: Mapping[str, str], changes: Changes | None) -> str:
     """The row of a launch."""
     here = launch.map
     kernel = here.of_kind("kernel")
-    warnings = f'<span class="warned">{count_of(len(here.warnings), "warning")}</span>' if here.warnings else ""
+    warnings = f"<b>{count_of(len(here.warnings), 'warning')}</b>" if here.warnings else ""
     cells = ["<td>" + (code(kernel.file, MOST_PATH) if kernel is not None and kernel.file is not None else "none") + "</td>",
-             f'<td class="num" data-n="{here.ram}">{size_of(here.ram) if here.ram else "none"}</td>',
-             f'<td class="num" data-n="{here.recs}">{processors(launch)}</td>',
+             f'<td data-n="{here.ram}">{size_of(here.ram) if here.ram else "none"}</td>',
+             f"<td>{here.recs}</td>",
              "<td>" + ("none" if launch.command_line is None else code(launch.command_line, MOST_LINE)) + "</td>",
-             f"<td>{escaped(launch.value.algorithm)}</td>", f'<td class="value">{value_of(launch.value)}</td>', f"<td>{warnings}</td>"]
+             f"<td>{escaped(launch.value.algorithm)}</td>", f"<td>{value_of(launch.value)}</td>", f"<td>{warnings}</td>"]
     cells += [f"<td>{changes.word_of(launch.name)}</td>"] if changes is not None else []
-    return f'<tr data-of="{ids[launch.name]}"><th scope="row">{link(launch.name, ids)}</th>{"".join(cells)}</tr>\n'
+    return f'<tr><th scope="row">{link(launch.name, ids)}</th>{"".join(cells)}</tr>\n'
 
 
 def table(launches: tuple[Launch, ...], ids: Mapping[str, str], changes: Changes | None) -> str:

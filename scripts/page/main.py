@@ -74,9 +74,9 @@ def inputs_of(release: Release, said: Words) -> list[str]:
     return found + [each.source.of(path) for each in release.checked for path in (release.report.files or {} if release.report else {})]
 
 
-def of_release(rim: Rim, said: Words, folder: str, out: str) -> int:
+def of_release(rim: Rim, said: Words, out: str) -> int:
     """The page of a release. Where a manifest is at fault, the page says so, and so does the status."""
-    release = reading.released(rim, reading.sources_of(said.operands), folder)
+    release = reading.released(rim, reading.sources_of(said.operands))
     made = release_page.page(release, since(said, release.report) if release.report is not None else None)
     check_no_input(out, inputs_of(release, said))
     write(made.encode(), out)
@@ -85,11 +85,12 @@ def of_release(rim: Rim, said: Words, folder: str, out: str) -> int:
     return release.status
 
 
-def of_two(rim: Rim, said: Words, folder: str, out: str) -> int:
+def of_two(rim: Rim, said: Words, out: str) -> int:
     """The page of two launches."""
     first, name, *rest = said.operands
     places = [(Source(first), name), (Source(rest[0] if len(rest) == 2 else first), rest[-1])]
-    made, status = sides.page(rim, places, folder)
+    with files.folder("rim-page-") as folder:
+        made, status = sides.page(rim, places, folder)
     check_no_input(out, [source.at for source, _ in places])
     write(made.encode(), out)
     if status == 3:
@@ -123,9 +124,7 @@ def run(all_words: list[str]) -> int:
     out = said.out or "-"
     if out != "-":
         files.may_be_made(out, said.is_forced)
-    rim = begun()
-    with files.folder("rim-page-") as folder:
-        return (of_two if "--diff" in said.flags else of_release)(rim, said, folder, out)
+    return (of_two if "--diff" in said.flags else of_release)(begun(), said, out)
 
 
 def main(all_words: list[str]) -> int:

@@ -1,25 +1,23 @@
 """Elements of HTML and SVG as texts. Each text that comes from a manifest, a file or a program is shown by the rule of `outside.texts` and
-escaped here, so no character of it is a mark, moves others or is hidden."""
+escaped here, so no character of it is a mark, moves others or is hidden. It is always between tags: no attribute has a text of others."""
 from __future__ import annotations
 
 import html
 
 from outside.texts import plain, visible
 
-# How many digits of a digest are side by side. The room between two such groups is of the style alone: who copies them gets digits.
-GROUP = 8
 # How many characters of a path, and of a command line, a cell of a table has; how many are shown where all of it is to be read.
 MOST_PATH, MOST_LINE, MOST_WHOLE = 120, 160, 1 << 16
 
 
 def escaped(text: str) -> str:
     """A text of a program's, which has shown what is hidden in it already."""
-    return html.escape(plain(text))
+    return html.escape(plain(text), quote=False)
 
 
 def named(text: str, most: int = MOST_WHOLE) -> str:
     """A path or a command line: its own `\\` are doubled. One that is longer than this is cut, with `..` after it."""
-    return html.escape(visible(text[:most])) + ".." * (len(text) > most)
+    return html.escape(visible(text[:most]), quote=False) + ".." * (len(text) > most)
 
 
 def element(name: str, content: str, **attributes: object) -> str:
@@ -33,9 +31,8 @@ def code(text: str, most: int = MOST_WHOLE) -> str:
 
 
 def digits(text: str) -> str:
-    """Hexadecimal digits in groups."""
-    groups = (text[at:at + GROUP] for at in range(0, len(text), GROUP))
-    return f'<span class="d">{"".join(f"<i>{group}</i>" for group in groups)}</span>'
+    """Hexadecimal digits, which the style shows in groups: who copies them gets all of them and nothing else."""
+    return f"<samp>{escaped(text)}</samp>"
 
 
 def listed(lines: list[str], **attributes: object) -> str:

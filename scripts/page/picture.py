@@ -34,9 +34,15 @@ def number(value: float) -> str:
     return f"{value:.1f}".rstrip("0").rstrip(".")
 
 
-def rect(kind: str, left: float, top: float, right: float, bottom: float) -> str:
-    size = f'width="{number(right - left)}" height="{number(bottom - top)}"'
-    return f'<rect class="{kind}" x="{number(left)}" y="{number(top)}" {size}/>'
+def box(left: float, top: float, right: float, bottom: float) -> str:
+    """The path of a box."""
+    width = number(right - left)
+    return f"M{number(left)} {number(top)}h{width}v{number(bottom - top)}h-{width}z"
+
+
+def path(kind: str, lines: str) -> str:
+    """What is drawn along some lines, by its class; nothing where there are none."""
+    return f'<path class="{kind}" d="{lines}"/>' if lines else ""
 
 
 def text(left: float, at: float, content: str, kind: str = "") -> str:
@@ -76,8 +82,9 @@ def region_of(regions: Sequence[Region], bases: Sequence[int], address: int) -> 
     return regions[at] if at >= 0 and address < regions[at].end else None
 
 
-def strip(kinds: Sequence[str], columns: tuple[int, int], regions: Sequence[Region], some: Sequence[blocks.Stretch]) -> Iterator[str]:
-    """Stretches of RAM as a strip beside it, each by its level in a colour. Both rise, so each is looked at once."""
+def strip(columns: tuple[int, int], regions: Sequence[Region], some: Sequence[blocks.Stretch]) -> dict[int, str]:
+    """Stretches of RAM as a strip beside it: the path of those of each level. Both rise, so each is looked at once."""
+    found: dict[int, str] = {}
     at = 0
     for each in some:
         while at < len(regions) and regions[at].end <= each.base:
@@ -85,8 +92,9 @@ def strip(kinds: Sequence[str], columns: tuple[int, int], regions: Sequence[Regi
         here = at
         while here < len(regions) and regions[here].base < each.end:
             top, bottom = regions[here].at(each.base), regions[here].at(each.end)
-            yield rect(kinds[each.level], columns[0], top, columns[1], max(bottom, top + 1))
+            found[each.level] = found.get(each.level, "") + box(columns[0], top, columns[1], max(bottom, top + 1))
             here += 1
+    return found
 
 
 def addresses(regions: Sequence[Region]) -> Iterator[str]:
@@ -121,18 +129,23 @@ def extent_of(item: Item) -> str:
     return f"at {item.address:#x}" if item.size is None else f"{item.address:#x} to {item.end:#x}"
 
 
-def enlarged(item: Item, top: float) -> str:
-    """An item as a box that has all of its pages, in which its bytes are, and what is said of it."""
+def inner(item: Item, top: float) -> str:
+    """The path of an item's bytes in the box of its pages. An item that has no place has a mark of its kind."""
     left, right = ITEM
     whole, size = (item.pages or 0) * PAGE, item.size or 0
-    # an item that has no place has a mark of its kind
-    inner = [left, left + 4] if not whole else [left + (right - left) * each / whole for each in (item.lead, min(item.lead + size, whole))]
+    if not whole:
+        return box(left, top, left + 4, top + BOX)
+    first, last = (left + (right - left) * each / whole for each in (item.lead, min(item.lead + size, whole)))
+    return box(first, top, max(last, first + 1), top + BOX)
+
+
+def said_of(item: Item, top: float) -> str:
+    """What is said of an item beside its box, in two lines."""
     name = escaped(item.name if len(item.name) <= MOST_NAME else item.name[:MOST_NAME] + "..")
+    kind = "" if item.kind == item.name else f" {escaped(item.kind)}"
     edited = ", edited" if item.is_edited else ""
-    lines = f'<tspan class="h">{name}</tspan> {escaped(item.kind)}{edited}, {item.how}'
     where = f"{extent_of(item)}, {bytes_of(item)}"
-    return (rect("p", left, top, right, top + BOX) + rect(look(item), inner[0], top, max(inner[1], inner[0] + 1), top + BOX)
-            + text(TEXT, top + 11, f'{lines}<tspan class="m" x="{TEXT}" dy="14">{where}</tspan>'))
+    return text(TEXT, top + 11, f'<tspan class="h">{name}</tspan>{kind}{edited}, {item.how}<tspan class="m" x="{TEXT}" dy="14">{where}</tspan>')
 
 
 def zoomed(region: Region, item: Item, top: float) -> str:
@@ -166,20 +179,22 @@ def drawn(here: Map) -> Picture:
     """The picture of a launch."""
     regions = placed(here.regions)
     bases = [each.base for each in regions]
-    parts = [*strip(("b0", "b1", "b2", "b3"), BLOCKS, regions, blocks.of_ram(here)), *strip(("t",) * 4, TABLES, regions, blocks.divided(here)),
-             *(rect("r", RAM[0], each.top, RAM[1], each.bottom) for each in regions)]
-    boxes, paths, items = [], [], []
-    for number_, item in enumerate(in_order(here)):
-        top = TOP + number_ * ROW
-        boxes.append(enlarged(item, top))
-        region = region_of(regions, bases, item.address)
+    boxes, leads, items, words = "", "", [], []
+    for at, item in enumerate(in_order(here)):
+        top = TOP + at * ROW
+        boxes += box(ITEM[0], top, ITEM[1], top + BOX)
+        lines, region = inner(item, top), region_of(regions, bases, item.address)
         if region is not None:
-            paths.append(zoomed(region, item, top))
-            items.append(rect(look(item), RAM[0], region.at(item.first), RAM[1], max(region.at(item.end), region.at(item.first) + 1.5)))
-    leading = [f'<path class="l" d="{"".join(paths)}"/>'] if paths else []
-    heads = text(RAM[0], 12, "RAM, to scale", "m") + text(ITEM[0], 12, "items, enlarged" if here.items else "no items", "m")
+            leads += zoomed(region, item, top)
+            lines += box(RAM[0], region.at(item.first), RAM[1], max(region.at(item.end), region.at(item.first) + 1.5))
+        items.append(path(look(item), lines))
+        words.append(said_of(item, top))
+    strips = [path(f"b{level}", lines) for level, lines in sorted(strip(BLOCKS, regions, blocks.of_ram(here)).items())]
+    strips.append(path("t", "".join(strip(TABLES, regions, blocks.divided(here)).values())))
+    ram = path("r", "".join(box(RAM[0], each.top, RAM[1], each.bottom) for each in regions))
+    said = f'RAM, to scale<tspan x="{ITEM[0]}">{"items, enlarged" if here.items else "no items"}</tspan>'
     height = max([TOP + len(here.items) * ROW, *(each.bottom + 12 for each in regions)])
-    content = "".join([heads, *leading, *parts, *items, *addresses(regions), *boxes])
+    content = "".join([text(RAM[0], 12, said, "m"), path("l", leads), *strips, ram, path("p", boxes), *items, *addresses(regions), *words])
     return Picture(content, int(height) + 1, f"The map of launch {quoted(here.name)}", words_of(here))
 
 
@@ -191,7 +206,7 @@ def legend(top: float) -> str:
     for at, row in enumerate(rows):
         left = 8.0
         for kind, said in row:
-            found.append(rect(kind, left, top + at * 20, left + 12, top + at * 20 + 12) + text(left + 18, top + at * 20 + 10, said))
+            found.append(path(kind, box(left, top + at * 20, left + 12, top + at * 20 + 12)) + text(left + 18, top + at * 20 + 10, said))
             left += 34 + 6.2 * len(said)
     return "".join(found)
 
@@ -205,7 +220,7 @@ def alone(here: Map) -> str:
     below = "".join(text(8, height - 8, escaped(short(each)), "x") for each in refused)
     return (f'<svg xmlns="http://www.w3.org/2000/svg" viewBox="0 0 {WIDTH} {height}" width="{WIDTH}" height="{height}" class="map" role="img" '
             f'aria-labelledby="title desc">\n<title id="title">{escaped(picture.title)}</title>\n<desc id="desc">{said}</desc>\n'
-            f"<style>{style.OF_PICTURE_ALONE}</style>\n{rect('g', 0, 0, WIDTH, height)}\n{picture.content}\n{legend(picture.height + 8)}{below}\n</svg>\n")
+            f"<style>{style.OF_PICTURE_ALONE}</style>\n{path('g', box(0, 0, WIDTH, height))}\n{picture.content}\n{legend(picture.height + 8)}{below}\n</svg>\n")
 
 
 def short(line: str, most: int = 110) -> str:

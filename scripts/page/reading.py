@@ -21,7 +21,7 @@ from outside.programs import Ran
 from outside.rim import Rim, tree_of
 from outside.texts import visible
 
-from . import maps
+from . import maps, pieces
 from .maps import Map
 
 # The longest manifest that is read, and how many bytes of files all programs that run at a time may hold.
@@ -203,9 +203,9 @@ def check_same(rim: Rim, of: dict, here: Map, table: object):
         raise Fault(f"{visible(rim.path)}: the map and the report of launch {visible(here.name)} are of other items, {CHANGED}")
 
 
-def map_in(rim: Rim, of: Measured, launch: dict) -> Map:
-    """The map of a launch of a report."""
-    table = map_text(rim, of.source, launch["name"])
+def map_in(rim: Rim, launch: dict, source: Source) -> Map:
+    """The map of a launch of a report, by the manifest that it is of or by one of its own."""
+    table = map_text(rim, source, launch["name"])
     try:
         here = maps.map_of(table)
     except Malformed as why:
@@ -223,14 +223,14 @@ def tree_key(launch: dict) -> str | None:
     return launch["edited_sha256"] if tree["edited"] else tree["sha256"]
 
 
-def command_line(rim: Rim, of: Measured, launch: dict, folder: str, digest: str) -> str | None:
+def command_line(rim: Rim, source: Source, launch: dict, folder: str, digest: str) -> str | None:
     """The command line in the devicetree of a launch; None where that says none, or is none that `rim fdt` shows."""
     tree = next(each for each in launch["items"] if each["kind"] == "dtb")
-    path = of.source.of(tree["file"])
+    path = source.of(tree["file"])
     if tree["edited"]:
-        ran = rim.run("dtb", "--explain", "--", of.source.path, launch["name"], folder=of.source.folder)
+        ran = rim.run("dtb", "--explain", "--", source.path, launch["name"], folder=source.folder)
         if ran.status:
-            raise fault_of(ran, of.source)
+            raise fault_of(ran, source)
         if hashlib.sha256(ran.out).hexdigest() != digest:
             raise Fault(f"{visible(path)}: it was changed while it was measured, {CHANGED}")
         path = os.path.join(folder, digest)
@@ -265,23 +265,27 @@ def begun(make: Callable[[Given], Made], given: Given) -> Made:
     return make(given)
 
 
-def launches_of(rim: Rim, of: Measured, folder: str, progress: Progress, name: str | None = None) -> list[Launch]:
+def launches_of(rim: Rim, of: Measured, progress: Progress, name: str | None = None) -> list[Launch]:
     """The launches of a manifest, in its order, or that of a name alone. A devicetree that several have is asked for once."""
     tables = [each for each in of.table["launches"] if name in (None, each["name"])]
     at_once = max(1, min(len(os.sched_getaffinity(0)), MOST_HELD // max(1, of.bytes_held)))
-    here = in_order(tables, lambda each: map_in(rim, of, each), at_once, progress, "maps")
-    firsts: dict[str, dict] = {}
-    for each in tables:
-        if (key := tree_key(each)) is not None:
-            firsts.setdefault(key, each)
-    lines = in_order(list(firsts.items()), lambda each: command_line(rim, of, each[1], folder, each[0]), at_once, progress, "devicetrees")
+    with files.folder("rim-page-") as scratch:
+        own = {} if name is not None else pieces.written(rim, of.source.at, of.source.folder, of.report, scratch)
+        sources = {each["name"]: Source(own.get(each["name"], of.source.path), of.source.folder) for each in tables}
+        here = in_order(tables, lambda each: map_in(rim, each, sources[each["name"]]), at_once, progress, "maps")
+        firsts: dict[str, dict] = {}
+        for each in tables:
+            if (key := tree_key(each)) is not None:
+                firsts.setdefault(key, each)
+        lines = in_order(list(firsts.items()), lambda each: command_line(rim, sources[each[1]["name"]], each[1], scratch, each[0]), at_once, progress,
+                         "devicetrees")
     line_of = dict(zip(firsts, lines))
     known, inputs = of.report, of.report.inputs or {}
     return [Launch(each["name"], known.launches[each["name"]], inputs[each["name"]], map_, line_of.get(tree_key(each) or ""))
             for each, map_ in zip(tables, here)]
 
 
-def released(rim: Rim, sources: Sequence[Source], folder: str) -> Release:
+def released(rim: Rim, sources: Sequence[Source]) -> Release:
     """All that is known of some manifests, as one release; nothing but what is wrong where one of them is at fault."""
     progress = Progress("rim-page")
     program = version_of(rim)
@@ -290,7 +294,7 @@ def released(rim: Rim, sources: Sequence[Source], folder: str) -> Release:
         return Release(program, found)
     all_of = [measured(rim, each) for each in found]
     joined = report.joined([each.report for each in all_of])
-    launches = [launch for each in all_of for launch in launches_of(rim, each, folder, progress)]
+    launches = [launch for each in all_of for launch in launches_of(rim, each, progress)]
     for each in all_of:
         check_unchanged(each)
     if joined.program != program:

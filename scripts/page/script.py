@@ -7,7 +7,7 @@ const table = document.getElementById("launches"), search = document.getElementB
 if (!table || !search) return;
 document.documentElement.classList.add("js");
 const body = table.tBodies[0], heads = [...table.tHead.rows[0].cells], rows = [...body.rows];
-const parts = rows.map(row => document.getElementById(row.dataset.of));
+const parts = rows.map(row => document.getElementById(row.querySelector("a").hash.slice(1)));
 const texts = rows.map(row => row.textContent.toLowerCase());
 const order = new Intl.Collator("en", {numeric: true});
 heads.forEach((head, column) => {
@@ -16,7 +16,7 @@ heads.forEach((head, column) => {
     button.append(...head.childNodes);
     head.append(button);
     head.setAttribute("aria-sort", "none");
-    const key = row => head.dataset.kind ? Number(row.cells[column].dataset.n) : row.cells[column].textContent;
+    const key = row => head.dataset.kind ? Number(row.cells[column].dataset.n ?? row.cells[column].textContent) : row.cells[column].textContent;
     button.addEventListener("click", () => {
         const sign = head.getAttribute("aria-sort") === "ascending" ? -1 : 1;
         for (const each of heads) each.setAttribute("aria-sort", "none");

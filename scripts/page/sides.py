@@ -33,10 +33,10 @@ class Side:
     label: str
 
 
-def side(rim: Rim, of: Checked, name: str, label: str, folder: str) -> Side:
+def side(rim: Rim, of: Checked, name: str, label: str) -> Side:
     """A launch of a manifest that has no fault."""
     measured = reading.measured(rim, of)
-    found = reading.launches_of(rim, measured, folder, Progress("rim-page"), name)
+    found = reading.launches_of(rim, measured, Progress("rim-page"), name)
     if not found:
         raise Fault(f"rim: no-such-launch: {shown(name)}, expected one of {visible(of.source.path)}")
     return Side(measured, found[0], label)
@@ -128,7 +128,7 @@ def page(rim: Rim, places: Sequence[tuple[Source, str]], folder: str) -> tuple[s
     if any(each.status == 3 for each in checked.values()):
         wrong = Release(reading.version_of(rim), tuple(checked.values()))
         return without_values(wrong), wrong.status
-    sides = [side(rim, checked[source], name, label, folder) for (source, name), label in zip(places, labels(places))]
+    sides = [side(rim, checked[source], name, label) for (source, name), label in zip(places, labels(places))]
     steps = first_step(rim, sides[0], sides[1], folder)
     for each in sides:
         reading.check_unchanged(each.of)

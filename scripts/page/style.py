@@ -5,7 +5,7 @@ from __future__ import annotations
 # tools/trials/page_in_browser.py looks.
 COLOURS = {
     "ground": ("#ffffff", "#15181d"), "text": ("#1b1d21", "#e7e9ec"), "muted": ("#555c66", "#aab2bd"), "line": ("#c9ced6", "#3b424d"),
-    "raised": ("#f3f5f8", "#1e232b"), "link": ("#0b57b0", "#8ab8ff"), "bad": ("#b3261e", "#ff9088"), "bad-ground": ("#fdecea", "#3a1a18"),
+    "raised": ("#f3f5f8", "#1e232b"), "stripe": ("#e4e9f1", "#2a323e"), "link": ("#0b57b0", "#8ab8ff"), "bad": ("#b3261e", "#ff9088"), "bad-ground": ("#fdecea", "#3a1a18"),
     "odd": ("#6b4700", "#ffd479"), "odd-ground": ("#fff5da", "#352a12"), "good": ("#17693a", "#6fd394"),
     "kernel": ("#1f63d6", "#5aa2ff"), "initrd": ("#1a7f37", "#45b75c"), "dtb": ("#b54708", "#f08a3c"), "raw": ("#7d4cd6", "#b78cff"),
     "unknown": ("#68707b", "#9aa4b1"), "ram": ("#e3e7ed", "#2a313b"), "edge": ("#68707b", "#8b949e"),
@@ -19,9 +19,9 @@ SANS, MONO = "system-ui,sans-serif", "ui-monospace,monospace"
 OF_PICTURE = """
 .map text{font-size:11px;fill:var(--text)}
 .map .m{fill:var(--muted)}.map .h{font-weight:700}.map .a{text-anchor:end}.map .x{fill:var(--bad)}
-.map rect{stroke-width:1}.map .g{fill:var(--ground)}
+.map path{stroke-width:1}.map .g{fill:var(--ground)}
 .map .r{fill:var(--ram);stroke:var(--edge)}.map .p{fill:var(--ram);stroke:none}
-.map .l{fill:var(--muted);fill-opacity:.13}
+.map .l{fill:var(--muted);fill-opacity:.16}
 .k{fill:var(--kernel);stroke:var(--kernel)}.i{fill:var(--initrd);stroke:var(--initrd)}.d{fill:var(--dtb);stroke:var(--dtb)}
 .w{fill:var(--raw);stroke:var(--raw)}.u{fill:var(--unknown);stroke:var(--unknown);fill-opacity:.15;stroke-dasharray:1 2}
 .n{fill-opacity:.15;stroke-dasharray:4 2}
@@ -39,17 +39,17 @@ h2{{font-size:1.25rem;margin:2rem 0 .6rem}}h3{{font-size:1.05rem;margin:0 0 .4re
 p,ul,dl{{margin:.4rem 0}}a{{color:var(--link)}}
 :focus-visible{{outline:3px solid var(--link);outline-offset:1px}}
 code{{font-family:{MONO};font-size:.9em;overflow-wrap:anywhere;unicode-bidi:isolate}}
-.d{{font-family:{MONO};font-size:.86em;display:inline-block;width:36ch;vertical-align:top}}
-.d i{{font-style:normal;display:inline-block;margin-right:.6ch}}
+samp{{font-family:{MONO};font-size:.88em;display:inline-block;width:32ch;max-width:100%;word-break:break-all;vertical-align:top;
+background:repeating-linear-gradient(90deg,transparent 0 8ch,var(--stripe) 8ch 16ch)}}
 .bad,.odd{{border-left:5px solid var(--bad);background:var(--bad-ground);padding:.5rem .8rem;margin:.8rem 0;overflow-wrap:anywhere}}
 .odd{{border-color:var(--odd);background:var(--odd-ground)}}
-.bad h2,.odd h2{{margin:.2rem 0}}.bad h2,.no,.bad strong{{color:var(--bad)}}.odd h2,.warned{{color:var(--odd)}}
+.bad h1,.bad h2,.odd h2{{margin:.2rem 0}}.bad :is(h1,h2,strong),td em{{color:var(--bad)}}.odd h2,td b{{color:var(--odd)}}em{{font-style:normal;font-weight:700}}
 .wide{{overflow-x:auto}}
 table{{border-collapse:collapse;width:100%;font-size:.875rem}}caption{{text-align:left;color:var(--muted);padding:.2rem 0}}
 th,td{{text-align:left;vertical-align:top;padding:.35rem .5rem;border-bottom:1px solid var(--line);overflow-wrap:anywhere}}
 thead th{{background:var(--raised);overflow-wrap:normal}}
 #launches th[scope=row]{{min-width:9rem;max-width:18rem}}#launches td:nth-child(2),#launches td:nth-child(5){{min-width:8rem;max-width:20rem}}
-.num{{text-align:right;white-space:nowrap}}
+#launches :is(th,td):nth-child(3),#launches :is(th,td):nth-child(4){{text-align:right;white-space:nowrap}}
 thead button{{font:inherit;font-weight:700;color:inherit;background:none;border:0;padding:0;cursor:pointer;text-align:left}}
 thead button::after{{content:" ↕";color:var(--muted)}}
 [aria-sort=ascending] button::after{{content:" ↑"}}[aria-sort=descending] button::after{{content:" ↓"}}
@@ -57,7 +57,6 @@ thead button::after{{content:" ↕";color:var(--muted)}}
 input{{font:inherit;color:inherit;background:var(--ground);border:1px solid var(--edge);border-radius:4px;padding:.3rem .5rem;width:min(24rem,100%)}}
 .launch{{border-top:1px solid var(--line);padding:1rem 0;content-visibility:auto;contain-intrinsic-size:auto 46rem}}
 .launch:target h3{{outline:3px solid var(--link);outline-offset:3px}}
-.launch>.d,.value .d{{font-size:.95em}}
 figure{{margin:.6rem 0;overflow-x:auto}}.map{{display:block;width:100%;max-width:56rem;min-width:40rem;height:auto;font-family:{SANS}}}
 dl{{display:grid;grid-template-columns:max-content 1fr;gap:.1rem .9rem;font-size:.9rem}}dt{{color:var(--muted)}}dd{{margin:0;overflow-wrap:anywhere}}
 .bar{{display:block;width:100%;max-width:56rem;height:1rem}}
@@ -79,10 +78,9 @@ body{{max-width:none;padding:0;font-size:9.5pt}}
 .wide,figure{{overflow:visible}}
 table{{font-size:7pt}}th,td{{padding:2pt 3pt}}thead{{display:table-header-group}}tr{{break-inside:avoid}}
 #launches th[scope=row],#launches td:nth-child(2),#launches td:nth-child(5){{min-width:0}}
-.num{{white-space:normal}}
-.d{{white-space:normal}}h2,h3,caption{{break-after:avoid}}
+h2,h3,caption{{break-after:avoid}}
 .launch{{content-visibility:visible;break-inside:avoid-page}}
 .map,.sides .map{{min-width:0;max-width:150mm}}
-rect,path,.key li::before{{print-color-adjust:exact;-webkit-print-color-adjust:exact}}
+samp,path,.key li::before{{print-color-adjust:exact;-webkit-print-color-adjust:exact}}
 }}
 {OF_PICTURE}"""
