@@ -1,12 +1,13 @@
-"""A manifest of each launch by itself, where a manifest has many.
+"""The launches of a manifest as Python reads them, and a manifest of each by itself where there are many.
 
-`rim map` reads its manifest whole for one launch, so the maps of all take as long as their number squared. A manifest of one launch is read at once.
-It is written here of what Python reads, and so it may be another launch. So all of them are measured once more, together: only if each has the very value
-that the report has of it, its map is asked for by its own manifest; else all are asked for by the manifest that is shown.
+`rim map` reads its manifest whole for one launch, so the maps of all take as long as their number squared; a manifest of one launch is read at once.
+What Python reads may be another launch than what `rim` does. So all of them are written and measured once more, together: only if each has the
+very value that the report has of it, anything is taken from here; else `rim` is asked for all by the manifest that is shown.
 """
 from __future__ import annotations
 
 import os
+from dataclasses import dataclass, field
 
 from comparer.report import Report
 from matcher import manifests
@@ -18,6 +19,20 @@ from outside.rim import Rim
 
 # Up to so many launches it is as quick to ask for all by their own manifest.
 FEW = 32
+
+
+@dataclass(frozen=True)
+class Pieces:
+    """The launches by their names, and the path of a manifest of each one alone. Both are empty where they are not to be used."""
+
+    launches: dict[str, Launch] = field(default_factory=dict)
+    paths: dict[str, str] = field(default_factory=dict)
+
+    def command_line(self, name: str) -> str | None:
+        """The command line that a launch puts into its devicetree. It is that of the manifest only if it is measured."""
+        launch = self.launches.get(name)
+        tree = launch.of_kind("dtb") if launch is not None else None
+        return None if tree is None or tree.measured is False else tree.bootargs
 
 
 def text_of(launches: list[Launch], paths: dict[str, str]) -> str:
@@ -33,23 +48,20 @@ def are_same(rim: Rim, path: str, folder: str | None, known: Report) -> bool:
     return ran.status in (0, 1) and manifests.values_of(ran) == {name: str(value) for name, value in known.launches.items()}
 
 
-def written(rim: Rim, path: str, folder: str | None, known: Report, scratch: str) -> dict[str, str]:
-    """The path of a manifest for each launch of one that is at a path, where `rim` starts in a folder; none where its launches are few, or one would
-    be another launch. They are written into the folder `scratch`."""
-    if len(known.launches) <= FEW:
-        return {}
+def read(rim: Rim, path: str, folder: str | None, known: Report, scratch: str) -> Pieces:
+    """The launches of the manifest at a path, for which `rim` starts in a folder. What is written is in the folder `scratch`."""
     what = "a manifest"
     try:
         table = files.toml_of(path, files.read(path, manifests.MOST, what), what)
         launches = manifests.launches_of(path, table)
     except Fault:
-        return {}
+        return Pieces()
     paths = {str(each.get("name")): str(each.get("path")) for each in manifests.tables_of(table, "file")}
     both = os.path.join(scratch, "all.toml")
     files.write(both, text_of(launches, paths).encode())
     if not are_same(rim, both, folder, known):
-        return {}
-    found = {each.name: os.path.join(scratch, f"{number}.toml") for number, each in enumerate(launches)}
-    for each in launches:
+        return Pieces()
+    found = {each.name: os.path.join(scratch, f"{at}.toml") for at, each in enumerate(launches)} if len(launches) > FEW else {}
+    for each in launches if found else ():
         files.write(found[each.name], text_of([each], paths).encode())
-    return found
+    return Pieces({each.name: each for each in launches}, found)

@@ -270,19 +270,19 @@ def launches_of(rim: Rim, of: Measured, progress: Progress, name: str | None = N
     tables = [each for each in of.table["launches"] if name in (None, each["name"])]
     at_once = max(1, min(len(os.sched_getaffinity(0)), MOST_HELD // max(1, of.bytes_held)))
     with files.folder("rim-page-") as scratch:
-        own = {} if name is not None else pieces.written(rim, of.source.at, of.source.folder, of.report, scratch)
-        sources = {each["name"]: Source(own.get(each["name"], of.source.path), of.source.folder) for each in tables}
+        own = pieces.read(rim, of.source.at, of.source.folder, of.report, scratch)
+        sources = {each["name"]: Source(own.paths.get(each["name"], of.source.path), of.source.folder) for each in tables}
         here = in_order(tables, lambda each: map_in(rim, each, sources[each["name"]]), at_once, progress, "maps")
+        lines = {each["name"]: own.command_line(each["name"]) for each in tables}
         firsts: dict[str, dict] = {}
         for each in tables:
-            if (key := tree_key(each)) is not None:
+            if lines[each["name"]] is None and (key := tree_key(each)) is not None:
                 firsts.setdefault(key, each)
-        lines = in_order(list(firsts.items()), lambda each: command_line(rim, sources[each[1]["name"]], each[1], scratch, each[0]), at_once, progress,
+        asked = in_order(list(firsts.items()), lambda each: command_line(rim, sources[each[1]["name"]], each[1], scratch, each[0]), at_once, progress,
                          "devicetrees")
-    line_of = dict(zip(firsts, lines))
-    known, inputs = of.report, of.report.inputs or {}
-    return [Launch(each["name"], known.launches[each["name"]], inputs[each["name"]], map_, line_of.get(tree_key(each) or ""))
-            for each, map_ in zip(tables, here)]
+    known, inputs, line_of = of.report, of.report.inputs or {}, dict(zip(firsts, asked))
+    return [Launch(name, known.launches[name], inputs[name], map_, line_of.get(tree_key(each) or "") if lines[name] is None else lines[name])
+            for each, map_ in zip(tables, here) for name in [each["name"]]]
 
 
 def released(rim: Rim, sources: Sequence[Source]) -> Release:
