@@ -3,7 +3,7 @@ from __future__ import annotations
 
 from .maps import Map
 from .markup import count_of, element
-from .picture import box, path
+from .picture import area, path
 
 # The members of a map's extensions, with what each counts in words: of one, and of several.
 PARTS = (("realms", "realm", "realms"), ("ripas", "block of RAM", "blocks of RAM"), ("pages", "page with contents", "pages with contents"),
@@ -25,12 +25,12 @@ def bar(here: Map) -> str:
     room, left, drawn = WIDTH - LEAST * len(some), 0.0, []
     for at, count, _ in some:
         right = left + LEAST + room * count / whole
-        drawn.append(path(f"e{at}", box(left, 0, right, HEIGHT)))
+        drawn.append(path(f"e{at}", area(left, 0, right, HEIGHT)))
         left = right
     # the list after it says the same
     picture = element("svg", "".join(drawn), class_="bar", viewBox=f"0 0 {WIDTH} {HEIGHT}", preserveAspectRatio="none", aria_hidden="true")
     keys = "".join(f'<li class="e{at}">{said}</li>' for at, _, said in some)
-    return f'<p>The measurement is made of {count_of(whole, "extension")}:</p>{picture}<ul class="key">{keys}</ul>'
+    return f'<p>The measurement has {count_of(whole, "extension")}:</p>{picture}<ul class="key">{keys}</ul>'
 
 
 def granules(here: Map) -> str:

@@ -75,4 +75,4 @@ def part(launch: Launch, ids: Mapping[str, str], changes: Changes | None, pictur
     made = bar(here) if here.extensions else ""
     back = '<a class="back" href="#launches">All launches</a>'
     content = "\n".join(filter(None, [head, value, refused, odd, changed, figure(launch, pictures), made, parameters(launch), items(launch), back]))
-    return element("section", content, id=ids[launch.name], class_="launch") + "\n"
+    return element("section", content, id=ids[launch.name]) + "\n"

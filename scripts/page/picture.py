@@ -34,10 +34,15 @@ def number(value: float) -> str:
     return f"{value:.1f}".rstrip("0").rstrip(".")
 
 
-def box(left: float, top: float, right: float, bottom: float) -> str:
-    """The path of a box."""
+def area(left: float, top: float, right: float, bottom: float) -> str:
+    """The path of a box that is filled and has no outline."""
     width = number(right - left)
-    return f"M{number(left)} {number(top)}h{width}v{number(bottom - top)}h-{width}z"
+    return f"M{number(left)} {number(top)}h{width}v{number(bottom - top)}h-{width}"
+
+
+def box(left: float, top: float, right: float, bottom: float) -> str:
+    """The path of a box with an outline."""
+    return area(left, top, right, bottom) + "z"
 
 
 def path(kind: str, lines: str) -> str:
@@ -92,7 +97,7 @@ def strip(columns: tuple[int, int], regions: Sequence[Region], some: Sequence[bl
         here = at
         while here < len(regions) and regions[here].base < each.end:
             top, bottom = regions[here].at(each.base), regions[here].at(each.end)
-            found[each.level] = found.get(each.level, "") + box(columns[0], top, columns[1], max(bottom, top + 1))
+            found[each.level] = found.get(each.level, "") + area(columns[0], top, columns[1], max(bottom, top + 1))
             here += 1
     return found
 
@@ -182,7 +187,7 @@ def drawn(here: Map) -> Picture:
     boxes, leads, items, words = "", "", [], []
     for at, item in enumerate(in_order(here)):
         top = TOP + at * ROW
-        boxes += box(ITEM[0], top, ITEM[1], top + BOX)
+        boxes += area(ITEM[0], top, ITEM[1], top + BOX)
         lines, region = inner(item, top), region_of(regions, bases, item.address)
         if region is not None:
             leads += zoomed(region, item, top)
@@ -220,7 +225,7 @@ def alone(here: Map) -> str:
     below = "".join(text(8, height - 8, escaped(short(each)), "x") for each in refused)
     return (f'<svg xmlns="http://www.w3.org/2000/svg" viewBox="0 0 {WIDTH} {height}" width="{WIDTH}" height="{height}" class="map" role="img" '
             f'aria-labelledby="title desc">\n<title id="title">{escaped(picture.title)}</title>\n<desc id="desc">{said}</desc>\n'
-            f"<style>{style.OF_PICTURE_ALONE}</style>\n{path('g', box(0, 0, WIDTH, height))}\n{picture.content}\n{legend(picture.height + 8)}{below}\n</svg>\n")
+            f"<style>{style.OF_PICTURE_ALONE}</style>\n{path('g', area(0, 0, WIDTH, height))}\n{picture.content}\n{legend(picture.height + 8)}{below}\n</svg>\n")
 
 
 def short(line: str, most: int = 110) -> str:

@@ -8,7 +8,7 @@ from outside.texts import visible
 
 from . import changes, launch_part, launches, whole
 from .changes import Changes
-from .markup import code, count_of, digits, escaped, listed, table
+from .markup import code, count_of, digits, escaped, listed, scrolled, table
 from .names import ids_of, link, links, rest
 from .reading import Checked, Launch, Release, Source
 
@@ -21,13 +21,13 @@ def place_of(source: Source) -> str:
 def manifests(checked: tuple[Checked, ...]) -> str:
     """The manifests with their digests."""
     rows = [[place_of(each.source), f"{each.length:,}", digits(each.digest)] for each in checked]
-    return table("The manifests that this page is of", ["Manifest", "Bytes", "SHA-256"], rows)
+    return scrolled("Manifests", table("The manifests that this page is of", ["Manifest", "Bytes", "SHA-256"], rows))
 
 
 def files(report: Report) -> str:
     """The files of all manifests with their digests."""
     rows = [[code(path), f"{content.length:,}", digits(content.digest)] for path, content in (report.files or {}).items()]
-    return "<h2>Files</h2>" + (table("All files that the manifests name", ["File", "Bytes", "SHA-256"], rows) if rows else "<p>None.</p>") + "\n"
+    return "<h2>Files</h2>" + (scrolled("Files", table("All files that the manifests name", ["File", "Bytes", "SHA-256"], rows)) if rows else "<p>None.</p>") + "\n"
 
 
 # ---- what is wrong, and what is odd

@@ -18,7 +18,7 @@ from outside.texts import shown, visible
 from . import launch_part, reading, whole
 from .bar import bar
 from .launches import value_of
-from .markup import code, element, escaped, listed, named, table
+from .markup import code, element, escaped, listed, named, scrolled, table
 from .names import rest
 from .reading import Checked, Launch, Measured, Release, Source
 from .release_page import manifests, place_of, without_values
@@ -83,7 +83,7 @@ def values(sides: Sequence[Side]) -> str:
         said = "Not both have a value."
     else:
         said = "Both have one value." if (one.algorithm, one.digits) == (other.algorithm, other.digits) else "They have different values."
-    return f"<p><strong>{said}</strong></p>" + table("The two launches", ["Launch", "Manifest", "Algorithm", "Value"], rows) + "\n"
+    return f"<p><strong>{said}</strong></p>" + scrolled("The two launches", table("Both values", ["Launch", "Manifest", "Algorithm", "Value"], rows)) + "\n"
 
 
 def inputs(sides: Sequence[Side]) -> str:
@@ -93,7 +93,7 @@ def inputs(sides: Sequence[Side]) -> str:
     if one.command_line != other.command_line:
         rows.append(["command line", *("none" if each.command_line is None else code(each.command_line) for each in (one, other))])
     heads = ["What", *(escaped(each.label) for each in sides)]
-    return "<h2>What they are made of</h2>" + (table("What differs", heads, rows) if rows else "<p>Nothing differs of what a report has of them.</p>") + "\n"
+    return "<h2>What they are made of</h2>" + (scrolled("What differs", table("What differs", heads, rows)) if rows else "<p>Nothing differs of what a report has of them.</p>") + "\n"
 
 
 def picture_of(each: Side, pictures: launch_part.Pictures) -> str:

@@ -48,23 +48,23 @@ background:repeating-linear-gradient(90deg,transparent 0 8ch,var(--stripe) 8ch 1
 table{{border-collapse:collapse;width:100%;font-size:.875rem}}caption{{text-align:left;color:var(--muted);padding:.2rem 0}}
 th,td{{text-align:left;vertical-align:top;padding:.35rem .5rem;border-bottom:1px solid var(--line);overflow-wrap:anywhere}}
 thead th{{background:var(--raised);overflow-wrap:normal}}
-#launches th[scope=row]{{min-width:9rem;max-width:18rem}}#launches td:nth-child(2),#launches td:nth-child(5){{min-width:8rem;max-width:20rem}}
+#launches{{table-layout:fixed;min-width:70rem}}
+#launches th:nth-child(1){{width:15%}}#launches th:nth-child(2){{width:13%}}#launches th:nth-child(3){{width:6.5rem}}#launches th:nth-child(4){{width:7.5rem}}
+#launches th:nth-child(6){{width:7rem}}#launches th:nth-child(7){{width:17.5rem}}#launches th:nth-child(8),#launches th:nth-child(9){{width:7.5rem}}
 #launches :is(th,td):nth-child(3),#launches :is(th,td):nth-child(4){{text-align:right;white-space:nowrap}}
 thead button{{font:inherit;font-weight:700;color:inherit;background:none;border:0;padding:0;cursor:pointer;text-align:left}}
 thead button::after{{content:" ↕";color:var(--muted)}}
 [aria-sort=ascending] button::after{{content:" ↑"}}[aria-sort=descending] button::after{{content:" ↓"}}
 .tools{{display:none;gap:.6rem;align-items:center;flex-wrap:wrap;margin:.5rem 0}}.js .tools{{display:flex}}
 input{{font:inherit;color:inherit;background:var(--ground);border:1px solid var(--edge);border-radius:4px;padding:.3rem .5rem;width:min(24rem,100%)}}
-.launch{{border-top:1px solid var(--line);padding:1rem 0;content-visibility:auto;contain-intrinsic-size:auto 46rem}}
-.launch:target h3{{outline:3px solid var(--link);outline-offset:3px}}
+section[id]{{border-top:1px solid var(--line);padding:1rem 0;content-visibility:auto;contain-intrinsic-size:auto 46rem}}
+section:target h3{{outline:3px solid var(--link);outline-offset:3px}}
 figure{{margin:.6rem 0;overflow-x:auto}}.map{{display:block;width:100%;max-width:56rem;min-width:40rem;height:auto;font-family:{SANS}}}
 dl{{display:grid;grid-template-columns:max-content 1fr;gap:.1rem .9rem;font-size:.9rem}}dt{{color:var(--muted)}}dd{{margin:0;overflow-wrap:anywhere}}
 .bar{{display:block;width:100%;max-width:56rem;height:1rem}}
-.e0,.e0::before{{fill:var(--edge);background:var(--edge)}}.e1,.e1::before{{fill:var(--b2);background:var(--b2)}}
-.e2,.e2::before{{fill:var(--initrd);background:var(--initrd)}}.e3,.e3::before{{fill:var(--dtb);background:var(--dtb)}}
-.e4,.e4::before{{fill:var(--raw);background:var(--raw)}}
-.key{{list-style:none;padding:0;display:flex;flex-wrap:wrap;gap:.2rem 1.2rem;font-size:.9rem}}.key li{{background:none}}
-.key li::before{{content:"";display:inline-block;width:.8em;height:.8em;margin-right:.4em}}
+.e0{{--c:var(--edge)}}.e1{{--c:var(--b2)}}.e2{{--c:var(--initrd)}}.e3{{--c:var(--dtb)}}.e4{{--c:var(--raw)}}.bar path{{fill:var(--c)}}
+.key{{list-style:none;padding:0;display:flex;flex-wrap:wrap;gap:.2rem 1.2rem;font-size:.9rem}}
+.key li::before{{content:"";display:inline-block;width:.8em;height:.8em;margin-right:.4em;background:var(--c)}}
 .sides{{display:grid;grid-template-columns:repeat(auto-fit,minmax(min(30rem,100%),1fr));gap:1.5rem}}.sides>*{{min-width:0}}
 .sides .map{{min-width:34rem}}
 pre{{font-family:{MONO};font-size:.85rem;white-space:pre-wrap;overflow-wrap:anywhere;background:var(--raised);padding:.6rem}}
@@ -77,9 +77,9 @@ body{{max-width:none;padding:0;font-size:9.5pt}}
 .tools,.back{{display:none!important}}a{{color:inherit;text-decoration:none}}
 .wide,figure{{overflow:visible}}
 table{{font-size:7pt}}th,td{{padding:2pt 3pt}}thead{{display:table-header-group}}tr{{break-inside:avoid}}
-#launches th[scope=row],#launches td:nth-child(2),#launches td:nth-child(5){{min-width:0}}
+#launches{{min-width:0}}#launches th:nth-child(7){{width:37%}}#launches th:nth-child(3),#launches th:nth-child(4),#launches th:nth-child(6),#launches th:nth-child(8){{width:7%}}
 h2,h3,caption{{break-after:avoid}}
-.launch{{content-visibility:visible;break-inside:avoid-page}}
+section[id]{{content-visibility:visible;break-inside:avoid-page}}
 .map,.sides .map{{min-width:0;max-width:150mm}}
 samp,path,.key li::before{{print-color-adjust:exact;-webkit-print-color-adjust:exact}}
 }}
