@@ -1,6 +1,7 @@
 #!/usr/bin/env python3
 """Starts the script by whose name it is called: `rim-manifest`, `rim-match`, `rim-compare`, `rim-page`, `rim-verify` and
-`rim-endorse` are links to this file, and copies of it where they are installed. The modules of a script are in the folder scripts beside it, or in ../share/rim where it is installed.
+`rim-endorse` are links to this file, and copies of it where they are installed. The modules of a script are in the folder scripts beside it, or in
+../share/rim where it is installed.
 
 It is read by older versions of Python too, so that they can say that they are; the modules are not.
 """

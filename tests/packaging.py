@@ -185,7 +185,7 @@ def packages(here: str) -> list[str] | None:
             wrong += of_library(here, path)
             continue
         with tarfile.open(path if name.endswith(".gz") else os.path.join(here, "package.tar")) as archive:
-            folders = {"outside", "vmm", "matcher", "comparer"} - {os.path.basename(each.name) for each in archive if each.isdir()}
+            folders = {"outside", "vmm", "matcher", "comparer", "page"} - {os.path.basename(each.name) for each in archive if each.isdir()}
         wrong += [f"{name}: there is no {each}" for each in folders]
     archives = [os.path.join(here, "plain", name) for name in plain[2] if name.endswith(".gz")]
     wrong += [line for path in archives for line in broken_links(here, path) + of_archive(path)]

@@ -304,7 +304,7 @@ def ends() -> list[str]:
 
 # ---- older versions of Python
 
-STARTS = ("rim-manifest", "rim-match", "rim-compare", "rim-verify", "rim-endorse", "scripts/vmm/measure.py")
+STARTS = ("rim-manifest", "rim-match", "rim-compare", "rim-page", "rim-verify", "rim-endorse", "scripts/vmm/measure.py")
 OLD = "import runpy, sys; sys.version_info = (3, 8, 2, 'final', 0); sys.argv = sys.argv[1:]; runpy.run_path(sys.argv[0], run_name='__main__')"
 
 
@@ -369,7 +369,8 @@ def oldest(program: str) -> list[str]:
         name, _, value = measured[1].splitlines()[1].split(" ")
         found = said("rim-match", "manifest.toml", name, value)
         wrong += [f"rim-match: {found}"] * (found != (0, f'launch "{name}" has the value as it is\n'))
-        others = [said("rim-compare", "kept", "manifest.toml"), said("rim-verify", "--help"), said("rim-endorse", "--help")]
+        others = [said("rim-compare", "kept", "manifest.toml"), said("rim-page", "--before", "kept", "--out", "page.html", "manifest.toml"),
+                  said("rim-verify", "--help"), said("rim-endorse", "--help")]
         return wrong + [f"{came}" for came in (made, measured, *others) if came[0]]
 
 

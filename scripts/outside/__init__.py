@@ -1,4 +1,4 @@
-"""How the scripts meet what is outside: files, programs, texts, signals. `rim-manifest`, `rim-match`, `rim-compare`, `rim-verify`,
+"""How the scripts meet what is outside: files, programs, texts, signals. `rim-manifest`, `rim-match`, `rim-compare`, `rim-page`, `rim-verify`,
 `rim-endorse`, `finder` and `tools/checks/edits.py` share it.
 
 faults      what stops a script: wrong words, a fault

@@ -96,12 +96,12 @@ def may_be_made(path: str, is_forced: bool) -> str:
     return os.path.realpath(path)
 
 
-def put(path: str, data: bytes, mode: int | None = None):
-    """Writes the file whole, or not at all; with a mode where one is given."""
+def put(path: str, data: bytes, mode: int | None = None, name: str = ""):
+    """Writes the file whole, or not at all; with a mode where one is given. `name` is what a fault calls it."""
     meanwhile = f"{path}.{os.getpid()}"
     try:
-        write(meanwhile, data, path)
-        with faults_of(path, "that it can be written"):
+        write(meanwhile, data, name or path)
+        with faults_of(name or path, "that it can be written"):
             if mode is not None:
                 os.chmod(meanwhile, mode)
             os.replace(meanwhile, path)

@@ -40,7 +40,7 @@ def write(data: bytes, out: str):
         sys.stdout.buffer.write(data)
         sys.stdout.flush()
     else:
-        files.put(os.path.realpath(out), data)
+        files.put(os.path.realpath(out), data, name=out)
 
 
 def replace(data: bytes, out: str):
@@ -52,7 +52,7 @@ def replace(data: bytes, out: str):
     if mode is None or stat.S_ISREG(mode):
         if mode is not None and not os.access(out, os.W_OK):
             raise Fault(f"{visible(out)}: Permission denied, expected that it can be written")
-        files.put(os.path.realpath(out), data, None if mode is None else stat.S_IMODE(mode))
+        files.put(os.path.realpath(out), data, None if mode is None else stat.S_IMODE(mode), out)
     else:
         files.write(out, data)
 

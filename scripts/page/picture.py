@@ -225,7 +225,8 @@ def alone(here: Map) -> str:
     below = "".join(text(8, height - 8, escaped(short(each)), "x") for each in refused)
     return (f'<svg xmlns="http://www.w3.org/2000/svg" viewBox="0 0 {WIDTH} {height}" width="{WIDTH}" height="{height}" class="map" role="img" '
             f'aria-labelledby="title desc">\n<title id="title">{escaped(picture.title)}</title>\n<desc id="desc">{said}</desc>\n'
-            f"<style>{style.OF_PICTURE_ALONE}</style>\n{path('g', area(0, 0, WIDTH, height))}\n{picture.content}\n{legend(picture.height + 8)}{below}\n</svg>\n")
+            f"<style>{style.OF_PICTURE_ALONE}</style>\n{path('g', area(0, 0, WIDTH, height))}\n{picture.content}\n"
+            f"{legend(picture.height + 8)}{below}\n</svg>\n")
 
 
 def short(line: str, most: int = 110) -> str:

@@ -27,7 +27,8 @@ def manifests(checked: tuple[Checked, ...]) -> str:
 def files(report: Report) -> str:
     """The files of all manifests with their digests."""
     rows = [[code(path), f"{content.length:,}", digits(content.digest)] for path, content in (report.files or {}).items()]
-    return "<h2>Files</h2>" + (scrolled("Files", table("All files that the manifests name", ["File", "Bytes", "SHA-256"], rows)) if rows else "<p>None.</p>") + "\n"
+    made = scrolled("Files", table("All files that the manifests name", ["File", "Bytes", "SHA-256"], rows)) if rows else "<p>None.</p>"
+    return f"<h2>Files</h2>{made}\n"
 
 
 # ---- what is wrong, and what is odd

@@ -68,8 +68,11 @@ def first_step(rim: Rim, one: Side, other: Side, folder: str) -> list[str]:
     found = nearest.of_launches(rim, one.of.source.path, [one.launch.name], there)
     if found.best is None:
         raise Fault("; ".join(found.refused))
-    return [*nearest.said_of(found, found.best, other.label, there),
-            *nearest.explained(rim, folder, one.of.source.path, found, there, contents_of(rim, other))]
+    said = nearest.said_of(found, found.best, other.label, there)
+    if one.launch.value.algorithm != other.launch.value.algorithm:
+        # no page has the same digest by another algorithm, so nothing can be said of pages
+        return said
+    return [*said, *nearest.explained(rim, folder, one.of.source.path, found, there, contents_of(rim, other))]
 
 
 # ---- the page
@@ -93,7 +96,8 @@ def inputs(sides: Sequence[Side]) -> str:
     if one.command_line != other.command_line:
         rows.append(["command line", *("none" if each.command_line is None else code(each.command_line) for each in (one, other))])
     heads = ["What", *(escaped(each.label) for each in sides)]
-    return "<h2>What they are made of</h2>" + (scrolled("What differs", table("What differs", heads, rows)) if rows else "<p>Nothing differs of what a report has of them.</p>") + "\n"
+    nothing = "<p>Nothing differs of what a report has of them.</p>"
+    return f"<h2>What they are made of</h2>{scrolled('What differs', table('What differs', heads, rows)) if rows else nothing}\n"
 
 
 def picture_of(each: Side, pictures: launch_part.Pictures) -> str:

@@ -5,7 +5,8 @@ from __future__ import annotations
 # tools/trials/page_in_browser.py looks.
 COLOURS = {
     "ground": ("#ffffff", "#15181d"), "text": ("#1b1d21", "#e7e9ec"), "muted": ("#555c66", "#aab2bd"), "line": ("#c9ced6", "#3b424d"),
-    "raised": ("#f3f5f8", "#1e232b"), "stripe": ("#e4e9f1", "#2a323e"), "link": ("#0b57b0", "#8ab8ff"), "bad": ("#b3261e", "#ff9088"), "bad-ground": ("#fdecea", "#3a1a18"),
+    "raised": ("#f3f5f8", "#1e232b"), "stripe": ("#e4e9f1", "#2a323e"), "link": ("#0b57b0", "#8ab8ff"), "bad": ("#b3261e", "#ff9088"),
+    "bad-ground": ("#fdecea", "#3a1a18"),
     "odd": ("#6b4700", "#ffd479"), "odd-ground": ("#fff5da", "#352a12"), "good": ("#17693a", "#6fd394"),
     "kernel": ("#1f63d6", "#5aa2ff"), "initrd": ("#1a7f37", "#45b75c"), "dtb": ("#b54708", "#f08a3c"), "raw": ("#7d4cd6", "#b78cff"),
     "unknown": ("#68707b", "#9aa4b1"), "ram": ("#e3e7ed", "#2a313b"), "edge": ("#68707b", "#8b949e"),
@@ -15,13 +16,12 @@ LIGHT = "".join(f"--{name}:{light};" for name, (light, _) in COLOURS.items())
 DARK = "".join(f"--{name}:{dark};" for name, (_, dark) in COLOURS.items())
 SANS, MONO = "system-ui,sans-serif", "ui-monospace,monospace"
 
-# What is drawn: a box of an item's pages, RAM, items by kind and by how they are measured, leads, blocks by level, tables, parts of a bar.
+# What is drawn: texts, the ground, RAM, a box of an item's pages, leads, items by kind and by how they are measured, blocks by level, tables. A picture
+# that is used twice is styled where it is used by what it inherits and by its own classes alone, so no rule speaks of what is around.
 OF_PICTURE = """
-.map text{font-size:11px;fill:var(--text)}
-.map .m{fill:var(--muted)}.map .h{font-weight:700}.map .a{text-anchor:end}.map .x{fill:var(--bad)}
-.map path{stroke-width:1}.map .g{fill:var(--ground)}
-.map .r{fill:var(--ram);stroke:var(--edge)}.map .p{fill:var(--ram);stroke:none}
-.map .l{fill:var(--muted);fill-opacity:.16}
+.map{font-size:11px;fill:var(--text)}
+.m{fill:var(--muted)}.h{font-weight:700}.a{text-anchor:end}.x{fill:var(--bad)}.g{fill:var(--ground)}
+.r{fill:var(--ram);stroke:var(--edge)}.p{fill:var(--ram)}.l{fill:var(--muted);fill-opacity:.16}
 .k{fill:var(--kernel);stroke:var(--kernel)}.i{fill:var(--initrd);stroke:var(--initrd)}.d{fill:var(--dtb);stroke:var(--dtb)}
 .w{fill:var(--raw);stroke:var(--raw)}.u{fill:var(--unknown);stroke:var(--unknown);fill-opacity:.15;stroke-dasharray:1 2}
 .n{fill-opacity:.15;stroke-dasharray:4 2}
@@ -42,9 +42,9 @@ code{{font-family:{MONO};font-size:.9em;overflow-wrap:anywhere;unicode-bidi:isol
 samp{{font-family:{MONO};font-size:.88em;display:inline-block;width:32ch;max-width:100%;word-break:break-all;vertical-align:top;
 background:repeating-linear-gradient(90deg,transparent 0 8ch,var(--stripe) 8ch 16ch)}}
 .bad,.odd{{border-left:5px solid var(--bad);background:var(--bad-ground);padding:.5rem .8rem;margin:.8rem 0;overflow-wrap:anywhere}}
-.odd{{border-color:var(--odd);background:var(--odd-ground)}}
+.odd{{border-color:var(--odd);background:var(--odd-ground)}}ul.odd{{list-style:none}}
 .bad h1,.bad h2,.odd h2{{margin:.2rem 0}}.bad :is(h1,h2,strong),td em{{color:var(--bad)}}.odd h2,td b{{color:var(--odd)}}em{{font-style:normal;font-weight:700}}
-.wide{{overflow-x:auto}}
+.wide{{overflow-x:auto}}.wide table{{min-width:38rem}}
 table{{border-collapse:collapse;width:100%;font-size:.875rem}}caption{{text-align:left;color:var(--muted);padding:.2rem 0}}
 th,td{{text-align:left;vertical-align:top;padding:.35rem .5rem;border-bottom:1px solid var(--line);overflow-wrap:anywhere}}
 thead th{{background:var(--raised);overflow-wrap:normal}}
@@ -71,13 +71,15 @@ pre{{font-family:{MONO};font-size:.85rem;white-space:pre-wrap;overflow-wrap:anyw
 footer{{margin-top:2.5rem;border-top:1px solid var(--line);color:var(--muted);font-size:.875rem}}
 [hidden]{{display:none!important}}
 @media print{{
-:root{{{LIGHT}color-scheme:light}}
+:root{{{LIGHT}color-scheme:light;font-size:9.5pt}}
 @page{{margin:11mm}}
-body{{max-width:none;padding:0;font-size:9.5pt}}
+body{{max-width:none;padding:0;font-size:1rem}}
 .tools,.back{{display:none!important}}a{{color:inherit;text-decoration:none}}
 .wide,figure{{overflow:visible}}
 table{{font-size:7pt}}th,td{{padding:2pt 3pt}}thead{{display:table-header-group}}tr{{break-inside:avoid}}
-#launches{{min-width:0}}#launches th:nth-child(7){{width:37%}}#launches th:nth-child(3),#launches th:nth-child(4),#launches th:nth-child(6),#launches th:nth-child(8){{width:7%}}
+.wide table,#launches{{min-width:0}}thead button::after{{content:none!important}}
+#launches th:nth-child(2){{width:12%}}#launches th:nth-child(3),#launches th:nth-child(6),#launches th:nth-child(8),#launches th:nth-child(9){{width:8%}}
+#launches th:nth-child(4){{width:9%}}#launches th:nth-child(7){{width:27%}}
 h2,h3,caption{{break-after:avoid}}
 section[id]{{content-visibility:visible;break-inside:avoid-page}}
 .map,.sides .map{{min-width:0;max-width:150mm}}

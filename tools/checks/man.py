@@ -9,7 +9,7 @@ each fault and of each refusal, and each key of a manifest that docs/FORMATS.md 
 its operands in their order and its options, and no form of another command. The table of the shells' completions has
 to have the same commands, their operands, and the same options. What the table says of `rim-manifest` is compared with the
 help texts of that script, and its man page has to name all of it; its SYNOPSIS has a form for each command. The man pages of
-`rim-match`, `rim-compare`, `rim-verify` and `rim-endorse` have to name the options of their help texts, which the table has too.
+`rim-match`, `rim-compare`, `rim-page`, `rim-verify` and `rim-endorse` have to name the options of their help texts, which the table has too.
 """
 import itertools
 import pathlib

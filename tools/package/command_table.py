@@ -202,6 +202,16 @@ RIM_COMPARE = script(
     Option(("--json",), "Print one JSON object in place of lines"),
     repeats=True,
 )
+RIM_PAGE = script(
+    "rim-page", (MANIFEST,),
+    Option(("--before",), "Say what changed since a report that was kept", FILE),
+    Option(("--diff",), "The page of two launches, side by side"),
+    Option(("--svg",), "The map of a launch alone, as a picture"),
+    Option(("--out",), "The file that gets the page", FILE),
+    Option(("--force",), "Replace that file"),
+    Option(("-o", "--output"), "The file that gets the picture", FILE),
+    repeats=True,
+)
 RIM_VERIFY = script("rim-verify", (FILE,), repeats=True)
 RIM_ENDORSE = script(
     "rim-endorse", (FILE,),
@@ -210,7 +220,7 @@ RIM_ENDORSE = script(
     Option(("--corim",), "Write an unsigned CoRIM in CBOR too", FILE),
     repeats=True,
 )
-SCRIPTS = (RIM_MATCH, RIM_COMPARE, RIM_VERIFY, RIM_ENDORSE)
+SCRIPTS = (RIM_MATCH, RIM_COMPARE, RIM_PAGE, RIM_VERIFY, RIM_ENDORSE)
 PROGRAMS = (RIM, RIM_MANIFEST, *SCRIPTS)
 
 

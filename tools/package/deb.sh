@@ -51,7 +51,7 @@ put_programs() {
         ;;
     *) put 755 "dist/rim-$machine" bin/rim ;;
     esac
-    for script in rim-manifest rim-match rim-compare rim-verify rim-endorse; do
+    for script in rim-manifest rim-match rim-compare rim-page rim-verify rim-endorse; do
         [ ! -f "$script" ] || put 755 "$script" "bin/$script"
     done
     if [ -f rim-manifest ]; then
@@ -76,7 +76,7 @@ put_documents() {
 
 put_completions() {
     tools/package/completions.py "$work/completions-$arch"
-    for program in rim rim-manifest rim-match rim-compare rim-verify rim-endorse; do
+    for program in rim rim-manifest rim-match rim-compare rim-page rim-verify rim-endorse; do
         [ "$program" = rim ] || [ -f "$program" ] || continue
         put 644 "$work/completions-$arch/$program.bash" "share/bash-completion/completions/$program"
         put 644 "$work/completions-$arch/_$program" "share/zsh/vendor-completions/_$program"

@@ -7,7 +7,8 @@ usage: tools/trials/page_in_browser.py PAGE.html FOLDER
 - The table is sorted and searched, by clicks and letters as a person makes them. A value that is selected has all digits and nothing else.
 - Each text has at least 4.5 to 1 against its ground, on a light and on a dark one, and what is drawn 3 to 1 (WCAG 2, AA). Names and labels for
   screen readers; headings in their order.
-- Pictures of it are put into FOLDER: wide.png, phone.png, dark.png, and paper.pdf.
+- Pictures of it are put into FOLDER: wide.png, phone.png, dark.png, paper.pdf, and part.png, which is the part of the second launch as far as its
+  bar: that of examples/vm/manifest.toml, made small by pngquant, is docs/rim-page.png.
 
 It needs Debian's chromium. The last line is 'N passed, M failed'.
 """
@@ -87,7 +88,8 @@ const look = (each, colour, grounds, most, what) => {
 for (const each of document.querySelectorAll("body *")) {
     const style = getComputedStyle(each);
     const has = [...each.childNodes].some(node => node.nodeType === 3 && node.data.trim());
-    const key = [each.tagName, each.getAttribute("class"), each.parentElement.tagName, each.parentElement.getAttribute("class"), style.color, style.fill].join();
+    const above = each.parentElement;
+    const key = [each.tagName, each.getAttribute("class"), above.tagName, above.getAttribute("class"), style.color, style.fill].join();
     if (seen.has(key) || ["SCRIPT", "STYLE", "title", "desc", "TITLE"].includes(each.tagName)) continue;
     seen.add(key);
     if (has && each instanceof SVGElement) look(each, solid(style.fill), [ground(each)], 4.5, "text");
@@ -200,8 +202,8 @@ class Browser:
     def scheme(self, name: str):
         self.ask("Emulation.setEmulatedMedia", media="", features=[{"name": "prefers-color-scheme", "value": name}])
 
-    def picture(self, path: Path):
-        said = self.ask("Page.captureScreenshot", format="png")
+    def picture(self, path: Path, **parameters):
+        said = self.ask("Page.captureScreenshot", format="png", **parameters)
         path.write_bytes(base64.b64decode(said["data"]))
 
     def end(self):
@@ -299,6 +301,14 @@ def pictures(browser: Browser, folder: Path):
     browser.value("getSelection().removeAllRanges(); scrollTo(0, 0)")
     browser.size(390, 1800, True)
     browser.picture(folder / "phone.png")
+    browser.size(900, 1000)
+    at = browser.value("(() => { const part = document.getElementById('l2'); if (!part) return null; part.scrollIntoView(); "
+                       "const end = part.querySelector('.key, dl').getBoundingClientRect(), top = part.getBoundingClientRect(); "
+                       "return [top.x + scrollX, top.y + scrollY, top.width, end.bottom - top.y]; })()")
+    if at:
+        clip = dict(zip(("x", "y", "width", "height"), (at[0] - 8, at[1], at[2] + 16, at[3] + 8)), scale=1)
+        browser.picture(folder / "part.png", clip=clip, captureBeyondViewport=True)
+    browser.value("scrollTo(0, 0)")
     height = min(MOST_HEIGHT, browser.value("document.documentElement.scrollHeight"))
     browser.size(1280, height)
     browser.picture(folder / "wide.png")
