@@ -33,7 +33,7 @@ from helpers.folders import Folder
 from helpers.tries import at_a_time, differs, program_of, told
 
 from outside.rim import Rim
-from page import reading, release_page
+from page import reading, release_page, style
 
 START = os.path.join(TOP, "rim-page")
 EXAMPLE = "examples/vm/manifest.toml"
@@ -323,6 +323,8 @@ def picture(program: str) -> list[str]:
         here.put("there", b"old")
         os.chmod(os.path.join(here.path, "there"), 0o640)
         os.symlink("there", os.path.join(here.path, "link"))
+        apart = [rule for rule in style.OF_PICTURE.split("}") if " " in rule.split("{")[0].strip()]
+        wrong += differs("rules of more than one class, which do not hold where a picture is used", apart, [])
         wrong += differs("-o", here.run("-o", "link", "--svg", EXAMPLE, "two-vcpus", start=START, RIM=program), (0, "", ""))
         first = here.run("--svg", EXAMPLE, "two-vcpus", start=START, RIM=program)[1]
         mode = stat.S_IMODE(os.stat(os.path.join(here.path, "there")).st_mode)

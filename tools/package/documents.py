@@ -13,7 +13,7 @@ import sys
 
 TOP = pathlib.Path(__file__).resolve().parents[2]
 HERE, SCRIPTS = "share/doc/rim", "share/rim"
-PATTERNS = ("README.md", "docs/*.md", "docs/*.schema.json", "bench/RESULTS.md", "examples/**/*")
+PATTERNS = ("README.md", "docs/*.md", "docs/*.schema.json", "docs/*.png", "bench/RESULTS.md", "examples/**/*")
 # Examples that build something need the repository around them.
 LEFT_OUT = "examples/debian/"
 CODE = re.compile(r"(^```.*?^```)", re.M | re.S)
