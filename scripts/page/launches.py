@@ -42,5 +42,5 @@ def table(launches: tuple[Launch, ...], ids: Mapping[str, str], changes: Changes
     head = "".join(f'<th scope="col"{" data-kind=num" if at in NUMBERS else ""}>{each}</th>' for at, each in enumerate(heads))
     body = "".join(row(each, ids, changes) for each in launches)
     caption = "<caption>Each launch with its value. A name leads to the launch’s own part.</caption>"
-    whole = element("table", f"{caption}<thead><tr>{head}</tr></thead><tbody>\n{body}</tbody>", id="launches")
+    whole = element("table", f"{caption}<thead><tr>{head}</tr></thead><tbody>\n{body}</tbody>", id="launches", class_="more" if changes is not None else None)
     return SEARCH + scrolled("Launches", whole)

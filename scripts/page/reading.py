@@ -27,7 +27,8 @@ from .maps import Map
 # The longest manifest that is read, and how many bytes of files all programs that run at a time may hold.
 MOST, MOST_HELD = 64 << 20, 1 << 30
 CHANGED = "expected that nothing changes what is shown while the page is made"
-Given, Made = TypeVar("Given"), TypeVar("Made")
+Given = TypeVar("Given")
+Made = TypeVar("Made")
 
 
 @dataclass(frozen=True)
@@ -242,7 +243,7 @@ def command_line(rim: Rim, source: Source, launch: dict, folder: str, digest: st
     finally:
         if tree["edited"]:
             os.remove(path)
-    return chosen and chosen.text("bootargs")
+    return None if chosen is None else chosen.text("bootargs")
 
 
 def in_order(some: Sequence[Given], make: Callable[[Given], Made], at_once: int, progress: Progress, about: str) -> list[Made]:

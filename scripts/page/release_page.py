@@ -69,10 +69,12 @@ def title_of(release: Release) -> str:
 
 def without_values(release: Release) -> str:
     """The page of a release of which a manifest is at fault: nothing is measured, and the page says so before all else."""
-    lines = [escaped(line) + (f" (in {code(each.source.folder)})" if each.source.folder else "") for each in release.checked for line in each.faults]
+    several = len(release.checked) > 1
+    wrong = [(each.source, listed(list(map(escaped, each.faults)))) for each in release.checked if each.faults]
+    said = "".join(f"<p>{place_of(source)}:</p>{lines}" if several else lines for source, lines in wrong)
     head = f'<div class="bad"><h1>No values: {escaped(title_of(release))}</h1><p><strong>Nothing was measured, since this is wrong:</strong></p>'
-    content = [f"{head}{listed(lines)}</div>", f"<p>Computed by {escaped(release.program)}.</p>", manifests(release.checked)]
-    return whole.page(f"NO VALUES: {escaped(title_of(release))}", "\n".join(content) + "\n")
+    content = [f"{head}{said}</div>", f"<p>The program is {escaped(release.program)}.</p>", manifests(release.checked)]
+    return whole.page(f"NO VALUES: {escaped(title_of(release))}", "\n".join(content) + "\n", has_values=False)
 
 
 def page(release: Release, since: Changes | None) -> str:

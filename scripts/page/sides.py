@@ -1,7 +1,6 @@
 """The page of two launches, side by side: their values, what they are made of, the first step that parts them, and their maps."""
 from __future__ import annotations
 
-import hashlib
 import os
 from collections.abc import Sequence
 from dataclasses import dataclass
@@ -61,10 +60,9 @@ def first_step(rim: Rim, one: Side, other: Side, folder: str) -> list[str]:
     ran = rim.run("trace", "--explain", "--", other.of.source.path, other.launch.name)
     if ran.status:
         raise reading.fault_of(ran, other.of.source)
-    path = os.path.join(folder, hashlib.sha256(other.label.encode(errors="surrogateescape")).hexdigest())
+    path = os.path.join(folder, "trace")
     files.write(path, ran.out)
     there = logs.read(path)
-    os.remove(path)
     found = nearest.of_launches(rim, one.of.source.path, [one.launch.name], there)
     if found.best is None:
         raise Fault("; ".join(found.refused))

@@ -48,9 +48,9 @@ background:repeating-linear-gradient(90deg,transparent 0 8ch,var(--stripe) 8ch 1
 table{{border-collapse:collapse;width:100%;font-size:.875rem}}caption{{text-align:left;color:var(--muted);padding:.2rem 0}}
 th,td{{text-align:left;vertical-align:top;padding:.35rem .5rem;border-bottom:1px solid var(--line);overflow-wrap:anywhere}}
 thead th{{background:var(--raised);overflow-wrap:normal}}
-#launches{{table-layout:fixed;min-width:70rem}}
-#launches th:nth-child(1){{width:15%}}#launches th:nth-child(2){{width:13%}}#launches th:nth-child(3){{width:6.5rem}}#launches th:nth-child(4){{width:7.5rem}}
-#launches th:nth-child(6){{width:7rem}}#launches th:nth-child(7){{width:17.5rem}}#launches th:nth-child(8),#launches th:nth-child(9){{width:7.5rem}}
+#launches{{table-layout:fixed;min-width:74rem}}#launches.more{{min-width:84rem}}
+#launches th:nth-child(1){{width:15%}}#launches th:nth-child(2){{width:13%}}#launches th:nth-child(3){{width:6rem}}#launches th:nth-child(4){{width:7rem}}
+#launches th:nth-child(6){{width:6.5rem}}#launches th:nth-child(7){{width:16.5rem}}#launches th:nth-child(8),#launches th:nth-child(9){{width:7rem}}
 #launches :is(th,td):nth-child(3),#launches :is(th,td):nth-child(4){{text-align:right;white-space:nowrap}}
 thead button{{font:inherit;font-weight:700;color:inherit;background:none;border:0;padding:0;cursor:pointer;text-align:left}}
 thead button::after{{content:" ↕";color:var(--muted)}}
@@ -74,10 +74,10 @@ footer{{margin-top:2.5rem;border-top:1px solid var(--line);color:var(--muted);fo
 :root{{{LIGHT}color-scheme:light;font-size:9.5pt}}
 @page{{margin:11mm}}
 body{{max-width:none;padding:0;font-size:1rem}}
-.tools,.back{{display:none!important}}a{{color:inherit;text-decoration:none}}
+.tools :is(label,input),.back{{display:none!important}}a{{color:inherit;text-decoration:none}}
 .wide,figure{{overflow:visible}}
 table{{font-size:7pt}}th,td{{padding:2pt 3pt}}thead{{display:table-header-group}}tr{{break-inside:avoid}}
-.wide table,#launches{{min-width:0}}thead button::after{{content:none!important}}
+.wide table,#launches,#launches.more{{min-width:0}}thead button::after{{content:none!important}}
 #launches th:nth-child(2){{width:12%}}#launches th:nth-child(3),#launches th:nth-child(6),#launches th:nth-child(8),#launches th:nth-child(9){{width:8%}}
 #launches th:nth-child(4){{width:9%}}#launches th:nth-child(7){{width:27%}}
 h2,h3,caption{{break-after:avoid}}

@@ -8,9 +8,9 @@ from . import picture, script, style
 from .markup import element
 
 # What a reader has to know of each page.
-FOOT = ("<footer><p>Values are those that <code>rim measure</code> has computed while this page was made. This page is only tested: what is proved is "
-        "the program, over definitions that restate the standard. No RIM of <code>rim</code> was ever compared with one that a running RMM "
-        "measured.</p></footer>")
+FOOT = ("This page is only tested: what is proved is the program, over definitions that restate the standard. No RIM of <code>rim</code> was ever "
+        "compared with one that a running RMM measured.")
+OF_VALUES = "Values are those that <code>rim measure</code> has computed while this page was made. "
 
 
 def hash_of(text: str) -> str:
@@ -24,7 +24,7 @@ def policy() -> str:
             "form-action 'none'")
 
 
-def page(title: str, content: str) -> str:
+def page(title: str, content: str, has_values: bool = True) -> str:
     """A page with this title and this content, both HTML. The icon is an empty one, since a browser would ask for one."""
     return f"""<!DOCTYPE html>
 <html lang="en">
@@ -41,7 +41,7 @@ def page(title: str, content: str) -> str:
 <body>
 <main>
 {content}</main>
-{FOOT}
+<footer><p>{OF_VALUES * has_values}{FOOT}</p></footer>
 <script>{script.OF_PAGE}</script>
 </body>
 </html>

@@ -329,7 +329,7 @@ def main(words: list[str]) -> int:
         browser = Browser(profile)
         try:
             came = {"requests and the console": opened(browser, page)}
-            if browser.value("Boolean(document.getElementById('launches'))"):
+            if browser.value("Boolean(document.querySelector('#launches tbody tr'))"):
                 came |= {"sorting": sorted_by_clicks(browser), "searching": searched(browser), "selecting": selected(browser)}
             came |= {"contrast": contrasts(browser), "labels": browser.value(LABELS), "a phone": fits(browser)}
             pictures(browser, folder)
