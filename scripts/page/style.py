@@ -50,7 +50,8 @@ th,td{{text-align:left;vertical-align:top;padding:.35rem .5rem;border-bottom:1px
 thead th{{background:var(--raised);overflow-wrap:normal}}
 #launches{{table-layout:fixed;min-width:74rem}}#launches.more{{min-width:78rem}}
 #launches th:nth-child(1){{width:15%}}#launches th:nth-child(2){{width:13%}}#launches th:nth-child(3){{width:6rem}}#launches th:nth-child(4){{width:7rem}}
-#launches.more th:nth-child(1){{width:13%}}#launches.more th:nth-child(2){{width:11%}}#launches th:nth-child(6){{width:6.5rem}}#launches th:nth-child(7){{width:16.5rem}}#launches th:nth-child(8),#launches th:nth-child(9){{width:7rem}}
+#launches.more th:nth-child(1){{width:13%}}#launches.more th:nth-child(2){{width:11%}}
+#launches th:nth-child(6){{width:6.5rem}}#launches th:nth-child(7){{width:16.5rem}}#launches th:nth-child(8),#launches th:nth-child(9){{width:7rem}}
 #launches :is(th,td):nth-child(3),#launches :is(th,td):nth-child(4){{text-align:right;white-space:nowrap}}
 thead button{{font:inherit;font-weight:700;color:inherit;background:none;border:0;padding:0;cursor:pointer;text-align:left}}
 thead button::after{{content:" ↕";color:var(--muted)}}

@@ -29,8 +29,8 @@ import urllib.parse
 import urllib.request
 from pathlib import Path
 
-# How long Chromium may take to begin, and to answer.
-SECONDS = 60
+# How long Chromium may take to begin, and to answer: a thousand launches are as many sheets of paper.
+SECONDS = 300
 # The longest page that is shown whole in a picture.
 MOST_HEIGHT = 3000
 # What axe and the like ask of each page, in words of this project. Answers a list of what is wrong.
@@ -332,11 +332,11 @@ def main(words: list[str]) -> int:
             if browser.value("Boolean(document.querySelector('#launches tbody tr'))"):
                 came |= {"sorting": sorted_by_clicks(browser), "searching": searched(browser), "selecting": selected(browser)}
             came |= {"contrast": contrasts(browser), "labels": browser.value(LABELS), "a phone": fits(browser)}
+            for name, wrong in came.items():
+                print(*(f"WRONG: {name}: {line}" for line in wrong), sep="\n", end="\n" * bool(wrong), flush=True)
             pictures(browser, folder)
         finally:
             browser.end()
-    for name, wrong in came.items():
-        print(*(f"WRONG: {name}: {line}" for line in wrong), sep="\n", end="\n" * bool(wrong))
     failed = sum(map(bool, came.values()))
     print(f"{len(came) - failed} passed, {failed} failed")
     return int(failed > 0)
