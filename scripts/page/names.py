@@ -8,7 +8,7 @@ from .markup import escaped
 # What `rim` writes before the rest of a warning or a refusal of one launch.
 FRONT, WARNING = 'launch "%s": ', "warning: "
 # How many launches a line names.
-MOST_NAMED = 24
+MOST_NAMED = 6
 
 
 def ids_of(names: Iterable[str]) -> dict[str, str]:
