@@ -20,6 +20,7 @@ import os
 import re
 import secrets
 import shutil
+import signal
 import socket
 import subprocess
 import sys
@@ -79,8 +80,8 @@ const stripe = each => { const found = getComputedStyle(each).backgroundImage.ma
 const wrong = [], seen = new Set();
 let least = 99, leastDrawn = 99;
 const look = (each, colour, grounds, most, what) => {
-    for (const behind of grounds) {
-        const found = ratio(colour, behind);
+    for (const under of grounds) {
+        const found = ratio(colour, under);
         if (what === "text") least = Math.min(least, found); else leastDrawn = Math.min(leastDrawn, found);
         if (found < most) wrong.push(`${what} ${each.tagName} ${each.getAttribute("class") || ""}: ${found.toFixed(2)}`);
     }
@@ -324,6 +325,9 @@ def main(words: list[str]) -> int:
         print("page_in_browser.py: expected PAGE.html FOLDER, and the program chromium", file=sys.stderr)
         return 2
     page, folder = Path(words[0]).resolve(), Path(words[1])
+    # whatever stops this ends the browser too
+    for number in (signal.SIGTERM, signal.SIGHUP, signal.SIGINT):
+        signal.signal(number, lambda came, _frame: sys.exit(128 + came))
     folder.mkdir(parents=True, exist_ok=True)
     with tempfile.TemporaryDirectory(ignore_cleanup_errors=True) as profile:
         browser = Browser(profile)
