@@ -16,7 +16,6 @@ from __future__ import annotations
 
 import base64
 import json
-import os
 import re
 import secrets
 import shutil
@@ -162,10 +161,18 @@ class Browser:
         words = ["chromium", "--headless", "--no-sandbox", "--disable-gpu", "--hide-scrollbars", "--remote-debugging-port=0", "--no-first-run",
                  f"--user-data-dir={folder}", "--disable-background-networking", "about:blank"]
         self.process = subprocess.Popen(words, stdout=subprocess.DEVNULL, stderr=subprocess.PIPE, text=True, start_new_session=True)
+        try:
+            self.socket, self.number, self.events = self.begun(), 0, []
+        except BaseException:
+            self.end()
+            raise
+
+    def begun(self) -> Socket:
+        """A socket to its one page, once it says where it listens."""
         port = next(found[1] for line in self.process.stderr if (found := re.search(r"listening on ws://127\.0\.0\.1:(\d+)/", line)))
         with urllib.request.urlopen(f"http://127.0.0.1:{port}/json/list", timeout=SECONDS) as said:
             pages = [each for each in json.load(said) if each["type"] == "page"]
-        self.socket, self.number, self.events = Socket(pages[0]["webSocketDebuggerUrl"]), 0, []
+        return Socket(pages[0]["webSocketDebuggerUrl"])
 
     def ask(self, method: str, **parameters) -> dict:
         self.number += 1
