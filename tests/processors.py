@@ -127,7 +127,7 @@ def alone(target: native.Target, program: str) -> list[str]:
 def build_library(target: library.Library, folder: str) -> list[str]:
     """Builds it in a folder; what is wrong with that of dist/."""
     made = library.build(target)
-    files.put(folder, {name: (data, target.mode) for name, data in made.items()})
+    files.put_all(folder, {name: (data, target.mode) for name, data in made.items()})
     return dist.not_same({f"dist/{name}": data for name, data in made.items()}) if not why_not_compared(target) else []
 
 

@@ -137,13 +137,13 @@ def put_files() -> list[str]:
             return {name: (files.read(os.path.join(place, name), 64), os.stat(os.path.join(place, name)).st_mode & 0o777) for name in os.listdir(place)}
 
         first, more = {"a": (b"1", 0o644), "b": (b"2", 0o755)}, {"a": (b"3", 0o755), "c": (b"4", 0o600)}
-        files.put(place, first)
+        files.put_all(place, first)
         wrong = [f"{has()}"] * (has() != first)
-        said = fault_of(lambda: files.put(place, more | {"n" * 256: (b"5", 0o644)}))
+        said = fault_of(lambda: files.put_all(place, more | {"n" * 256: (b"5", 0o644)}))
         wrong += [said] * (not said.endswith(": File name too long, expected that it can be written")) + [f"after a fault: {has()}"] * (has() != first)
-        files.put(place, more)
+        files.put_all(place, more)
         wrong += [f"{has()}"] * (has() != first | more)
-        said = fault_of(lambda: files.put(os.path.join(place, "a"), more))
+        said = fault_of(lambda: files.put_all(os.path.join(place, "a"), more))
     return wrong + [said] * (not said.endswith("/a: File exists, expected a folder in which files can be made"))
 
 

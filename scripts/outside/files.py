@@ -141,7 +141,7 @@ def folder(prefix: str, place: str | None = None) -> Iterator[str]:
                 shutil.rmtree(made, ignore_errors=True)
 
 
-def put(place: str, made: dict[str, tuple[bytes, int]]):
+def put_all(place: str, made: dict[str, tuple[bytes, int]]):
     """Puts files into a folder, each with its mode: all of them whole, in this order, or none where not all can be written."""
     with faults_of(place, "a folder in which files can be made"):
         os.makedirs(place, exist_ok=True)

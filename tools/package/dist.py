@@ -218,7 +218,7 @@ def write() -> list[str]:
     modes = {path: target.mode for kind in kinds for target in kind.targets for path in target.paths}
     # what names the files comes last, so that dist/ is never taken for one that it is not
     whole = made | {kind.source: source_of(kind, made) for kind in kinds}
-    files.put(str(TOP / "dist"), {path.removeprefix("dist/"): (data, modes.get(path, 0o644)) for path, data in whole.items()})
+    files.put_all(str(TOP / "dist"), {path.removeprefix("dist/"): (data, modes.get(path, 0o644)) for path, data in whole.items()})
     return []
 
 

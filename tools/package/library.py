@@ -188,7 +188,7 @@ def build_all(made: pathlib.Path | None, to: pathlib.Path) -> list[str]:
     faults = []
     for library in LIBRARIES:
         try:
-            files.put(str(to), {name: (data, library.mode) for name, data in build(library, made).items()})
+            files.put_all(str(to), {name: (data, library.mode) for name, data in build(library, made).items()})
         except CannotBuild as why:
             faults.append(str(why))
     return faults
