@@ -366,6 +366,28 @@ def large_files(_path: str) -> list[str]:
                     (100, ["large-3", *(f"small-{number}" for number in range(3))])])
 
 
+def begin_alike(path: str) -> list[str]:
+    """The first parts that two launches share are the first steps of both traces, and the next part is where these differ: so many steps as parts
+    have, but for one that each region and item may be short of. A trace has a line for all blocks of a region, and by level 1 a part counts one."""
+    here, wrong = folder(), []
+    some = near(path, here)
+    launch_1 = replace(some.base, block_level=1)
+    base = some.runs.candidate(program.Change((), launch_1))
+    ours = some.runs.trace(base)
+    for axis in AXES:
+        for text, launch in itertools.islice(axis.changes(launch_1, some.runs.files), 3):
+            other = some.runs.candidate(program.Change((text,), launch))
+            lines = some.runs.trace(other) if other else []
+            if not lines:
+                continue
+            alike = sum(1 for _ in itertools.takewhile(lambda pair: pair[0] == pair[1], zip(ours, lines)))
+            shared = sum(1 for _ in itertools.takewhile(lambda pair: pair[0] == pair[1], zip(base.parts, other.parts)))
+            least = sum(count for _, count in base.parts[:shared]) - shared
+            most = sum(max(count for _, count in pair) for pair in zip(base.parts[:shared + 1], other.parts[:shared + 1]))
+            wrong += [] if least <= alike <= most or len(lines) == len(ours) == alike else [f"{text}: {alike}, expected {least} to {most}"]
+    return wrong
+
+
 class Growing(dict):
     """Files of which another thread makes more: to go over all of them may fail."""
 
@@ -445,6 +467,20 @@ def rounds(_path: str) -> list[str]:
     runs, looked = engine(hit=150)
     hit = looked.found("many", launches_of([1] * 3000))
     return wrong + differs("the first that has it", (hit and hit.key, looked.tried, [len(each) for each in runs.given]), (150, 151, [64, 128]))
+
+
+def too_few(_path: str) -> list[str]:
+    """Launches that are too few for a run are in one with those of the next round, and else in the last one; each counts in its own round."""
+    filed = [Candidate(number, f"{number:06}", ((number, 1),), frozenset([NamedFile(f"f{number}", 1)])) for number in range(70)]
+    wrong = []
+    for more, sizes in ((launches_of([1] * 100)[70:], [64, 36]), ([], [64, 6])):
+        runs, looked = engine()
+        looked.found_in([search.Planned("one", filed), search.Planned("two", more)])
+        wrong += differs("runs", [len(each) for each in runs.given], sizes)
+        wrong += differs("rounds", [(each.tried, each.is_whole) for each in looked.rounds], [(70, True), (len(more), True)])
+    runs, looked = engine(hit=66)
+    hit = looked.found_in([search.Planned("one", filed), search.Planned("two", launches_of([1] * 100)[70:])])
+    return wrong + differs("the one that waited", (hit and hit.key, [each.tried for each in looked.rounds]), (66, [67, 0]))
 
 
 class LateRuns(NeverRuns):
@@ -531,7 +567,7 @@ def stopped_first(_path: str) -> list[str]:
         looked.found("many", launches_of([1] * 3000))
         return ["it was not stopped"]
     except Stopped:
-        return differs("tried", looked.tried, 3000 - 64)
+        return differs("tried, all of the round", (looked.tried, looked.rounds[0].is_whole), (3000 - 64, False))
 
 
 def fitting(_path: str) -> list[str]:
@@ -883,7 +919,7 @@ def all_tries(program: str):
             yield f"lines of {axis.name} of {name}", lambda axis=axis, name=name: lines_of(program, axis, name)
     for name in ("plain", "stub", "old"):
         yield f"with what {name} begins", lambda name=name: begins(program, name)
-    for look in (in_runs, large_files, heads, many_steps, rounds, at_once, round_after_round, no_time, stopped_first, fitting, forms, others, alike, stopped, hidden, lines_said, not_found, words, refused, traces, terminal, installed, documents, example):
+    for look in (in_runs, begin_alike, large_files, heads, many_steps, rounds, too_few, at_once, round_after_round, no_time, stopped_first, fitting, forms, others, alike, stopped, hidden, lines_said, not_found, words, refused, traces, terminal, installed, documents, example):
         yield look.__name__, lambda look=look: look(program)
 
 

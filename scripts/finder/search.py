@@ -4,7 +4,7 @@ from __future__ import annotations
 import math
 import time
 from collections import deque
-from collections.abc import Callable, Iterable, Iterator, Sequence
+from collections.abc import Callable, Hashable, Iterable, Iterator, Sequence
 from concurrent.futures import Future, ThreadPoolExecutor
 from dataclasses import dataclass, field
 from typing import NamedTuple
@@ -19,14 +19,16 @@ from .runs import AT_ONCE, MOST_FILES, MOST_LAUNCHES, Candidate, NamedFile, Outc
 # About how many steps the launches of a run have, where those that they share count once; and how many bytes of files, where these are not one
 # launch's own, or small.
 MOST_STEPS, MOST_BYTES = 1 << 23, 1 << 28
-# Among how many launches those that share their first steps are looked for: among few at first, since what is likely is found at once; later
-# few launches of a round are waited for, and then more and more.
-FIRST, LATER, MOST_AMONG = 64, 512, 4 * MOST_LAUNCHES
+# Among how many launches those that share their first steps are looked for: among few at first, since what is likely is found at once, and then
+# among GROWTH times as many as were made before; at most among so many, or so many where they have many steps, since then these take the time.
+FIRST, GROWTH, MOST_AMONG, MOST_AMONG_LONG = 64, 2, 4 * MOST_LAUNCHES, 16 * MOST_LAUNCHES
 # A file of as many bytes takes as long to be read as launches take that share nothing.
 LARGE = 1 << 22
 # A launch of more steps than this, and than twice those of the first one, is put aside until the end of its round, or until there are FIRST such,
 # and later more, so that those which begin alike are in one run: RAM in pages of 4 KiB takes as long as hundreds of other launches.
 COSTLY = 1 << 12
+# A run of fewer launches than an eighth of all that were made waits for more, those of the next round too: its files take as long as those of many.
+FEW = 8
 # How many launches are looked at for each one that may be tried: many were tried, or can't be.
 LOOKED_AT = 20
 # How many runs wait for those that go on: what is made next, or the run whose outcome comes first, may take as long as several.
@@ -47,25 +49,23 @@ class Planned:
 
 @dataclass
 class Round:
-    """Launches that were tried one after another: what is said of them, how many were tried and refused, how many were made and their run was
-    not begun, and whether all were made."""
+    """Launches that were tried one after another: what is said of them, how many were tried, how many were made and their run was not begun or
+    has not ended, and whether all were made."""
 
     about: str
     tried: int = 0
-    refused: int = 0
-    not_begun: int = 0
+    not_tried: int = 0
     are_made: bool = False
 
     @property
     def is_whole(self) -> bool:
         """Whether all of them were tried."""
-        return self.are_made and not self.not_begun
+        return self.are_made and not self.not_tried
 
 
 class Begun(NamedTuple):
-    """A run that goes on or waits for others: its round, its launches, and what comes of it; None where it was not begun."""
+    """A run that goes on or waits for others: its launches, and what comes of it; None where it was not begun."""
 
-    here: Round
     batch: list[Candidate]
     future: Future[Outcome | None]
 
@@ -77,10 +77,11 @@ def large_of(each: Candidate) -> list[str]:
 
 def in_runs(some: Sequence[Candidate]) -> Iterator[list[Candidate]]:
     """Launches for a run each. `rim measure` takes the steps once with which launches of a run begin, and each run reads and hashes the files
-    anew: so a run has those with the same large files, and of these those whose tables begin alike. It has them in their order, the likeliest
-    first."""
+    anew: so a run has those with the same large files, and of these those that begin alike. It has them in their order, the likeliest first."""
+    ranks: dict[Hashable, int] = {}
+    begin = [[ranks.setdefault(part, len(ranks)) for part, _ in each.parts] for each in some]
     found, here, steps = list[list[int]](), set[NamedFile](), 0
-    for place in sorted(range(len(some)), key=lambda place: (large_of(some[place]), some[place].table)):
+    for place in sorted(range(len(some)), key=lambda place: (large_of(some[place]), begin[place])):
         each = some[place]
         both = here | each.files
         is_too_long = bytes_of(both) > MOST_BYTES and bytes_of(both - here) >= LARGE
@@ -109,8 +110,12 @@ class Search:
     heard: Callable[[Sequence[Candidate]], None] | None = None
     at_once: int = AT_ONCE
     rounds: list[Round] = field(default_factory=list)
+    refused: int = 0
     made: int = 0
     costly: int = 0
+    made_of: dict[object, Round] = field(default_factory=dict)  # the rounds of launches that were made and not tried so far, by their keys
+    over: list[Candidate] = field(default_factory=list)         # those of them that are too few for a run, and until when that would begin
+    over_until: float = math.inf
     keys: set[object] = field(default_factory=set)              # of all launches that were tried: by what one is known from another, whole
     doubles: dict[object, list[Candidate]] = field(default_factory=dict)
     is_found: bool = False                                      # whether a run has what is looked for: no more are begun
@@ -121,10 +126,6 @@ class Search:
     @property
     def tried(self) -> int:
         return sum(each.tried for each in self.rounds)
-
-    @property
-    def refused(self) -> int:
-        return sum(each.refused for each in self.rounds)
 
     @property
     def is_over(self) -> bool:
@@ -148,25 +149,31 @@ class Search:
         waiting: deque[Begun] = deque()
         try:
             hit = next(filter(None, (self.found_of(each, pool, waiting) for each in planned)), None)
+            hit = hit or self.found_by(in_runs(self.over if self.fitting is None else ()), self.over_until, pool, waiting)
             return hit or self.fitting or next(filter(None, map(self.taken, waiting)), None)
         except Stopped:
             pool.shutdown(cancel_futures=True)
             self.count_ended(waiting)
             raise
         finally:
+            self.over = []
             pool.shutdown(cancel_futures=True)
             self.progress.end()
 
     def found_of(self, planned: Planned, pool: ThreadPoolExecutor, waiting: deque[Begun]) -> Candidate | None:
-        """Begins the runs of a round. What came of earlier ones is taken, in their order, where it has come or too many would wait."""
-        here, end = Round(planned.about), min(planned.until, self.until)
+        """Begins the runs of a round."""
+        here, self.over_until = Round(planned.about), min(planned.until, self.until)
         self.rounds.append(here)
-        for batch in self.batches(self.new(planned, here, end)):
+        return self.found_by(self.batches(self.new(planned, here, self.over_until)), self.over_until, pool, waiting) or self.fitting
+
+    def found_by(self, batches: Iterable[list[Candidate]], end: float, pool: ThreadPoolExecutor, waiting: deque[Begun]) -> Candidate | None:
+        """Begins runs. What came of earlier ones is taken, in their order, where it has come or too many would wait."""
+        for batch in batches:
             while waiting and (len(waiting) >= self.at_once + AHEAD or waiting[0].future.done()):
                 if hit := self.taken(waiting.popleft()):
                     return hit
-            waiting.append(Begun(here, batch, pool.submit(self.outcome, batch, end)))
-        return self.fitting
+            waiting.append(Begun(batch, pool.submit(self.outcome, batch, end)))
+        return None
 
     def outcome(self, batch: list[Candidate], end: float) -> Outcome | None:
         """What comes of a run; None where it is not begun: the script is stopped, its time is over, or one before it has what is looked for."""
@@ -209,14 +216,20 @@ class Search:
                     self.left.append(each)
                     continue
                 self.made += 1
+                self.made_of[each.key] = here
                 yield each
         here.are_made = len(self.left) == left
+
+    @property
+    def among(self) -> int:
+        """Among how many launches, from here on, those that share their first steps are looked for."""
+        return min(max(FIRST, GROWTH * self.made), MOST_AMONG_LONG if self.costly > COSTLY else MOST_AMONG)
 
     def batches(self, launches: Iterator[Candidate]) -> Iterator[list[Candidate]]:
         """Launches for a run each."""
         some: list[Candidate] = []
         late: list[Candidate] = []
-        among, most_late = min(max(FIRST, self.made), LATER), FIRST
+        among, most_late = self.among, FIRST
         for each in launches:
             self.costly = self.costly or max(COSTLY, 2 * each.steps)
             if each.steps > self.costly:
@@ -227,23 +240,33 @@ class Search:
                 continue
             some.append(each)
             if len(some) == among:
-                yield from in_runs(some)
-                some, among = [], min(2 * among, MOST_AMONG)
+                yield from self.filled(some)
+                some, among = [], self.among
         if self.fitting is None:
-            yield from in_runs(some)
-            yield from in_runs(late)
+            yield from self.filled(some)
+            yield from self.filled(late)
+
+    def filled(self, some: list[Candidate]) -> Iterator[list[Candidate]]:
+        """Launches for a run each, with those that were too few before. Those that are too few now wait."""
+        several, self.over = list(in_runs([*self.over, *some])), []
+        for each in several:
+            if FEW * len(each) < self.made:
+                self.over += each
+            else:
+                yield each
 
     def taken(self, run: Begun) -> Candidate | None:
         """What came of a run: the launch that was looked for, where it is among these. Those of a run that was not begun are as if they were not
         made."""
         came = run.future.result()
         if came is None:
-            run.here.not_begun += len(run.batch)
             self.made -= len(run.batch)
             self.keys.difference_update(each.key for each in run.batch)
+            self.count_not_tried(run.batch)
             return None
+        about = self.made_of[run.batch[-1].key].about
         self.count(run, came)
-        self.progress.show(f"{self.tried:,} launches tried" + f", {run.here.about}" * bool(run.here.about))
+        self.progress.show(f"{self.tried:,} launches tried" + f", {about}" * bool(about))
         if came.hit is None:
             return None
         hit = run.batch[came.hit]
@@ -254,13 +277,21 @@ class Search:
 
     def count(self, run: Begun, came: Outcome):
         """Counts the launches of a run as tried."""
-        run.here.tried += len(run.batch) if came.hit is None else came.hit + 1
-        run.here.refused += came.refused
+        for number, each in enumerate(run.batch):
+            self.made_of.pop(each.key).tried += came.hit is None or number <= came.hit
+        self.refused += came.refused
         if self.heard is not None:
             self.heard(run.batch)
 
+    def count_not_tried(self, some: Iterable[Candidate]):
+        for each in some:
+            self.made_of.pop(each.key).not_tried += 1
+
     def count_ended(self, waiting: Iterable[Begun]):
-        """Counts what was tried where a signal has come: runs that had ended, and whose outcome waited for that of an earlier one."""
+        """Counts what was tried where a signal has come: runs that had ended, and whose outcome waited for that of an earlier one. One that has the
+        value is none of them: that is not said any more, nor is the opposite."""
         for run in waiting:
-            if not run.future.cancelled() and run.future.exception() is None and (came := run.future.result()):
+            if not run.future.cancelled() and run.future.exception() is None and (came := run.future.result()) and came.hit is None:
                 self.count(run, came)
+        for here in self.made_of.values():
+            here.not_tried += 1

@@ -14,7 +14,7 @@ from outside.parameters import RMM_1_0, Parameter
 from . import people
 from .begins import entry_of, first_rec
 from .files import Files
-from .launch import KINDS, MIB, PAGE, Item, Launch, Rec, value_text, with_item, with_ram, with_recs, without_item
+from .launch import KINDS, MIB, PAGE, Item, Launch, Rec, all_steps, value_text, with_item, with_ram, with_recs, without_item
 from .people import USUAL_SIZES, Changes, more_recs
 
 
@@ -93,8 +93,7 @@ def regions_before(launch: Launch, files: Files, items: list[Item]) -> list[str]
 def orders(launch: Launch, files: Files) -> Changes:
     ram, last = [f"ram {number}" for number in range(len(launch.ram))], [f"rec {number}" for number in range(len(launch.rec))]
     rising = [f"ram {number}" for number in sorted(range(len(launch.ram)), key=lambda number: launch.ram[number])]
-    by_kind = [f"item {each.name}" for each in sorted(launch.item, key=lambda each: KINDS.index(each.kind))]
-    different: dict[tuple[str, ...], str] = {launch.steps or (*ram, *by_kind, *last): ""}
+    different: dict[tuple[str, ...], str] = {all_steps(launch): ""}
     named = [(f"items by {text}" if "," not in text else f"items {text}", order) for text, order in item_orders(launch)]
     for text, order in named:
         items = [f"item {each.name}" for each in order]

@@ -4,7 +4,7 @@ from __future__ import annotations
 import functools
 import json
 import operator
-from collections.abc import Hashable, Iterable, Mapping
+from collections.abc import Hashable, Mapping
 from dataclasses import dataclass, fields, replace
 
 from outside import parameters
@@ -149,30 +149,57 @@ def with_ram(launch: Launch, groups: list[list[Region]]) -> Launch:
 # ---- how much it is
 
 
-def blocks_of(launch: Launch) -> int:
-    """About how many blocks of RAM are measured: those at the ends of a region may be many smaller ones."""
-    size = (512 * GIB, GIB, 2 * MIB, PAGE)[2 if launch.block_level is None else launch.block_level]
-    return sum((end - base) // size + 1 for base, end in launch.ram)
+def blocks_of(region: Region, level: int | None) -> int:
+    """About how many blocks of a region of RAM are measured: those at its ends may be many smaller ones."""
+    base, end = region
+    return (end - base) // (512 * GIB, GIB, 2 * MIB, PAGE)[2 if level is None else level] + 1
 
 
-def pages_of(items: Iterable[Item], files: Mapping[str, Blob]) -> int:
-    """About how many pages some items have."""
-    sizes = (files[each.file].length if each.size is None else each.size for each in items if each.file is not None)
-    return sum(size // PAGE + 1 for size in sizes)
+def pages_of(item: Item, files: Mapping[str, Blob]) -> int:
+    """About how many pages an item has; none where it has no file."""
+    if item.file is None:
+        return 0
+    return (files[item.file].length if item.size is None else item.size) // PAGE + 1
 
 
-def steps_of(launch: Launch, files: Mapping[str, Blob]) -> int:
-    """About how many steps of it are measured: blocks of RAM, and pages of items."""
-    return blocks_of(launch) + pages_of(launch.item, files)
-
-
-# What a launch has beside its name, its items and its RECs: the realm, its RAM and the order of its steps.
-realm_of = operator.attrgetter(*(each.name for each in fields(Launch) if each.name not in ("name", "item", "rec")))
+def all_steps(launch: Launch) -> tuple[str, ...]:
+    """Its steps; where its table has none, the default ones: RAM, items by their kinds, RECs."""
+    if launch.steps is not None:
+        return launch.steps
+    ram, rec = ([f"{name} {number}" for number in range(len(some))] for name, some in (("ram", launch.ram), ("rec", launch.rec)))
+    return (*ram, *(f"item {each.name}" for each in sorted(launch.item, key=lambda each: KINDS.index(each.kind))), *rec)
 
 
 def parts_of(launch: Launch, files: Mapping[str, Blob]) -> tuple[tuple[Hashable, int], ...]:
-    """What is measured of it, part by part, each with about how many steps it has: the realm with its RAM, and item by item."""
-    return ((realm_of(launch), blocks_of(launch)), *((each, pages_of([each], files)) for each in launch.item))
+    """What is measured of it, in its order, each with about how many steps it has: the realm's parameters, each region, each item, all RECs. That
+    launches with the same first parts begin alike is sure enough to put them side by side, and no more: some with other parts are measured alike."""
+    items, level = {each.name: each for each in launch.item}, launch.block_level
+    parts: list[tuple[Hashable, int]] = [((launch.algo, launch.s2sz, launch.numbers), 1)]
+    recs: list[tuple[Hashable, int]] = [((launch.rec, launch.rec_rule), sum(not each.is_off or launch.rec_rule != "runnable" for each in launch.rec))]
+    for step in all_steps(launch):
+        what, _, which = step.partition(" ")
+        if what == "ram":
+            region = launch.ram[int(which)]
+            parts.append(((region, level), blocks_of(region, level)))
+        elif what == "item":
+            parts.append((edited(launch, items[which]), pages_of(items[which], files)))
+        else:
+            # they are few steps, wherever the others of them are
+            parts += recs
+            recs = []
+    return tuple(parts)
+
+
+def edited(launch: Launch, item: Item) -> Hashable:
+    """An item, with what a devicetree is edited by."""
+    if not (item.initrd or item.memory):
+        return item
+    return item, launch.of_kind("initrd") if item.initrd else None, launch.ram[0] if item.memory else None
+
+
+def steps_of(launch: Launch, files: Mapping[str, Blob]) -> int:
+    """About how many steps of it are measured."""
+    return sum(count for _, count in parts_of(launch, files))
 
 
 def is_whole(launch: Launch) -> bool:

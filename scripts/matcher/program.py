@@ -39,7 +39,9 @@ class Runs(runs.Runs):
         # a digest takes less room than what it is of, and no two of them are alike; Python's hash of 0 is that of 2 ** 61 - 1
         key = hashlib.blake2b(table.encode(errors="surrogateescape"), digest_size=16).digest()
         named = frozenset(NamedFile(each.file, self.files[each.file].length) for each in launch.item if each.file is not None)
-        return Candidate(key, table, parts_of(launch, self.files), named, change)
+        # parts say which launches are side by side, where two that are taken for one cost time alone: so they are kept by their hashes
+        parts = tuple((hash(part), count) for part, count in parts_of(launch, self.files))
+        return Candidate(key, table, parts, named, change)
 
     def has(self, launch: Launch, value: Value) -> bool:
         """Whether a launch has the value, measured by itself."""
