@@ -6,10 +6,10 @@ import json
 import os
 import sys
 
-from outside import ending, files, programs
+from outside import ending, files
 from outside.faults import Fault, WrongWords
 from outside.programs import Limits
-from outside.rim import Rim
+from outside.rim import Rim, started
 from outside.texts import pasted
 from outside.words import END, VERSION, Known, no_option, walk
 
@@ -48,9 +48,7 @@ JSON_VERSION = 2
 @functools.cache
 def program() -> Rim:
     """The program that measures; it may be started in another folder."""
-    rim = Rim(os.path.abspath(programs.found()))
-    programs.check(rim.path)
-    return rim
+    return started()
 
 
 def measured(path: str, folder: str | None = None) -> Report:

@@ -1,4 +1,4 @@
-"""Runs of `rim` over manifests that are written for it."""
+"""Runs of `rim`, or of its library, over manifests that are written for it."""
 from __future__ import annotations
 
 import functools
@@ -10,6 +10,7 @@ from typing import Any, NamedTuple
 
 from outside import files
 from outside.faults import Fault
+from outside.library import Library
 from outside.rim import Rim
 from outside.texts import visible
 from outside.measurement import Value
@@ -21,6 +22,11 @@ MOST_LAUNCHES, MOST_FILES = 1024, 64
 AT_ONCE = 2
 # What `rim` says where it could not do what a run is for: no launch is refused for these.
 FAULTS = ("no-memory", "file-unreadable", "file-too-large", "output-failed", "status ")
+
+
+def processors() -> int:
+    """How many processors there are for it, of which 64 are used."""
+    return min(64, len(os.sched_getaffinity(0)))
 
 
 class NamedFile(NamedTuple):
@@ -67,28 +73,49 @@ class Outcome:
 @dataclass
 class Runs:
     """The program, the text of the files that launches name, and a folder for manifests. `rim` is started there, or in another one that is
-    named: paths of files are as from there. Runs may be made by several threads."""
+    named: paths of files are as from there. A library measures in the program's place. Runs may be made by several threads."""
 
     rim: Rim
     head: str
     folder: str
     start: str = ""
-    workers: int = field(default_factory=lambda: max(1, min(64, len(os.sched_getaffinity(0))) // AT_ONCE))
+    paths: tuple[str, ...] = ()             # of the files in the head
+    library: Library | None = None          # what measures in the place of the program
+    workers: int = field(default_factory=lambda: max(1, processors() // AT_ONCE))
     numbers: Iterator[int] = field(default_factory=lambda: itertools.count(1))
 
     def head_of(self, launches: Sequence[Candidate]) -> str:
         """What is before the launches in a manifest."""
         return self.head
 
-    def run(self, launches: Sequence[Candidate], words: Callable[[str], list[str]]) -> Ran:
-        """What `rim` says by some words of a manifest of launches, which are named by their places; `words` is given its path."""
-        path = os.path.join(self.folder, f"search-{next(self.numbers)}.toml")
+    def paths_of(self, launches: Sequence[Candidate]) -> Iterable[str]:
+        """The paths of these files."""
+        return self.paths
+
+    @property
+    def at_once(self) -> int:
+        """How many runs there are at a time. One of the library is of one thread."""
+        return processors() if self.library else AT_ONCE
+
+    def text(self, launches: Sequence[Candidate]) -> bytes:
+        """A manifest of launches, which are named by their places."""
         tables = (f'[[launch]]\nname = "{number}"\n{each.table}' for number, each in enumerate(launches))
-        files.write(path, "".join([self.head_of(launches), *tables]).encode())
+        return "".join([self.head_of(launches), *tables]).encode()
+
+    def run(self, launches: Sequence[Candidate], words: Callable[[str], list[str]]) -> Ran:
+        """What `rim` says by some words of a manifest of launches; `words` is given its path."""
+        path = os.path.join(self.folder, f"search-{next(self.numbers)}.toml")
+        files.write(path, self.text(launches))
         try:
             return self.rim.run(*words(path), folder=self.start or self.folder)
         finally:
             os.remove(path)
+
+    def measured(self, launches: Sequence[Candidate]) -> Ran:
+        """The report of a manifest of launches."""
+        if self.library:
+            return self.library.measure(self.text(launches), self.paths_of(launches), self.start or self.folder)
+        return self.run(launches, lambda path: ["measure", "--workers", str(self.workers), path])
 
     def trace(self, launch: Candidate) -> list[str]:
         """The lines of a launch's trace; none where it is refused."""
@@ -97,12 +124,12 @@ class Runs:
 
     def outcome(self, launches: Sequence[Candidate], value: Value) -> Outcome:
         """Measures some launches. Where all of a run are refused for one of them, each half is tried by itself."""
-        ran = self.run(launches, lambda path: ["measure", "--workers", str(self.workers), path])
+        ran = self.measured(launches)
         if ran.status in (0, 1):
             before, line, _ = ran.out.decode("ascii", errors="replace").partition(f" {value.algo} {value.digits}\n")
             return Outcome(int(before.rsplit("\n", 1)[-1]) if line else None, ran.out.count(b" refused "))
         if ran.status < 0 or ran.status > 4 or any(word in ran.said for word in FAULTS):
-            raise Fault(f"{visible(self.rim.path)} measure: status {ran.status}: {ran.said}")
+            raise Fault(f"{visible(self.library.path if self.library else self.rim.path)} measure: status {ran.status}: {ran.said}")
         if len(launches) == 1:
             return Outcome(None, 1)
         half = len(launches) // 2

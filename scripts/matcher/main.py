@@ -12,11 +12,11 @@ from dataclasses import replace
 from comparer import report as kept_report
 from finder.progress import Progress
 from finder.search import Planned, Search
-from outside import ending, measurement, programs
+from outside import ending, library, measurement
 from outside import files as outside_files
 from outside.faults import Fault, WrongWords
 from outside.measurement import Value
-from outside.rim import Rim
+from outside.rim import Rim, started
 from outside.stopping import Stopped
 from outside.texts import pasted, shown, visible
 from outside.words import VERSION
@@ -192,7 +192,7 @@ def match(rim: Rim, folder: str, said: Words) -> int:
     held_files.hints = hints_of(said, given, held_files)
     if said.qemu is not None:
         held_files.dumper = dumper_of(said.qemu, folder, path, launch, held_files)
-    runs = program.begun(rim, folder, held_files)
+    runs = program.begun(rim, folder, held_files, library.found(rim.version, "rim-match"))
     if names := as_they_are(runs, given, given.launches, wanted):
         print(said_of_others(name, names))
         return 0
@@ -206,7 +206,7 @@ def match(rim: Rim, folder: str, said: Words) -> int:
     for each, launches in zip(also, launches_also):
         others += parts.others_of(launches, launch, visible(each.path))
     seconds = math.inf if said.is_far and said.seconds is None else said.seconds or SECONDS
-    search = Search(runs, wanted, said.limit, Progress("rim-match"), time.monotonic() + seconds, waits=True)
+    search = Search(runs, wanted, said.limit, Progress("rim-match"), time.monotonic() + seconds, waits=True, at_once=runs.at_once)
     return answered(said, given, launch, search, runs, lambda: look(runs, search, launch, others, said, kept))
 
 
@@ -266,8 +266,7 @@ def run(all_words: list[str]) -> int:
     check_operands(said)
     if said.trace is None:
         measurement.read(said.operands[2])
-    rim = Rim(programs.found())
-    programs.check(rim.path)
+    rim = started()
     with outside_files.folder("rim-match-") as made:
         return match(rim, made, said) if said.trace is None else near(rim, made, said)
 

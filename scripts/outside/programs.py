@@ -185,8 +185,9 @@ def found() -> str:
     return os.path.abspath(path)
 
 
-def check(path: str):
-    """Starts `rim` once, and lets it say what it has to: the script of a checkout may first have to build it."""
-    status = Running([path, "--version"], shows=True).wait().status
-    if status:
-        raise Fault(f"{visible(path)} --version: status {status}, expected the program rim")
+def check(path: str) -> str:
+    """The version of `rim`, which is started once and says what it has to: the script of a checkout may first have to build it."""
+    ran = Running([path, "--version"], shows=True).wait()
+    if ran.status:
+        raise Fault(f"{visible(path)} --version: status {ran.status}, expected the program rim")
+    return last_line(ran.out.decode(errors="replace"), "").removeprefix("rim ")

@@ -25,13 +25,20 @@ NO_IMAGE = ("kernel-short", "kernel-bad-magic")
 
 @dataclass(frozen=True)
 class Rim:
-    """The program. It runs where the user is, so that paths are read as from there."""
+    """The program, with the version that it has said. It runs where the user is, so that paths are read as from there."""
 
     path: str
+    version: str = ""
 
     def run(self, *words: str, limits: Limits = REPORT, folder: str | None = None) -> Ran:
         ran = programs.run([self.path, *words], limits, folder)
         return replace(ran, err=ran.err if ran.err.strip() else f"rim: status {ran.status}".encode())
+
+
+def started() -> Rim:
+    """The program, once it has said its version."""
+    path = programs.found()
+    return Rim(path, programs.check(path))
 
 
 @dataclass(frozen=True)

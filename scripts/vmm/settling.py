@@ -7,7 +7,7 @@ from collections.abc import Mapping, Sequence
 from dataclasses import dataclass, replace
 
 from finder.runs import Runs
-from outside import ending, files, measurement, parameters
+from outside import ending, files, library, measurement, parameters
 from outside.faults import Fault, WrongWords
 from outside.measurement import Value
 from outside.rim import REPORT
@@ -195,7 +195,8 @@ class Maker:
             stubs[places.stub_bytes] = made.put("stub-1", places.stub_bytes, "", "rule stub_bytes")
         blobs = [launch.guest.loaded, *filter(None, [launch.initrd]), *known.values(), *stubs.values(), made.put(ZEROS, b"\0", "", "zeros")]
         contents = {blob.file: settle.content_of(files.read(os.path.join(made.path, blob.file), 1 << 30)) for blob in blobs}
-        runs = Runs(work.rim, settle.head_of(blobs), made.path)
+        paths = tuple(blob.file for blob in blobs)
+        runs = Runs(work.rim, settle.head_of(blobs), made.path, paths=paths, library=library.found(work.rim.version, "rim-manifest"))
         return Case(self.vmm, work.table, launch, runs, given.value, given.trace, trees, stubs, contents)
 
     def drop(self):

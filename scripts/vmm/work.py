@@ -8,7 +8,7 @@ from collections.abc import Callable
 
 from outside import ending, files, parameters, programs
 from outside.faults import Fault, WrongWords
-from outside.rim import REPORT, Rim
+from outside.rim import REPORT, Rim, started
 from outside.texts import shown, visible
 
 from . import asked, checks, dumps, host, image, launches, layout, manifest, measure, names, realm, sorting, ways, words
@@ -150,8 +150,7 @@ class Work:
 
     def find_programs(self):
         """Finds `rim`, and looks at the version of the hypervisor's program, which has to be the one that is deployed."""
-        self.rim = Rim(programs.found())
-        programs.check(self.rim.path)
+        self.rim = started()
         if "program" not in self.said:
             return
         path = self.said["program"]
@@ -283,8 +282,9 @@ def source_name(vmm: Hypervisor, key: str) -> str:
 
 
 def go_to(folder: str):
-    """Has all paths read as from a folder; that of `rim` is one of where it was started."""
-    if os.sep in os.environ.get("RIM", ""):
-        os.environ["RIM"] = os.path.abspath(os.environ["RIM"])
+    """Has all paths read as from a folder; those of `rim` and of its library are of where it was started."""
+    for name in ("RIM", "RIM_LIBRARY"):
+        if os.sep in os.environ.get(name, ""):
+            os.environ[name] = os.path.abspath(os.environ[name])
     with files.faults_of(folder, "a folder"):
         os.chdir(folder)

@@ -41,20 +41,23 @@ def flags() -> frozenset[str]:
     return frozenset(line.partition(":")[2].split())
 
 
-def inside() -> Iterator[str]:
-    """The paths of the libraries of a wheel, beside this file: the best that the processor can run comes first."""
+def built(folder: str, end: str) -> Iterator[str]:
+    """The paths of the libraries of a folder that are named for processors: the best that this one can run comes first."""
     machine = platform.machine()
     levels = [f"{machine}-v3"] * (V3 <= flags()) + [f"{machine}-v2"] if machine == "x86_64" else [machine]
-    paths = (os.path.join(os.path.dirname(os.path.abspath(__file__)), f"librim-{level}.so") for level in levels)
-    return filter(os.path.exists, paths)
+    return filter(os.path.exists, (os.path.join(folder, f"librim-{level}.{end}") for level in levels))
 
 
 def where() -> str:
-    """The library's path: what RIM_LIBRARY names, a file or a folder; else that of the wheel; else a name for the system's loader."""
+    """The library's path: what RIM_LIBRARY names, a file, or a folder that has librim.so.0 or is as dist/; else that of the wheel, beside this file;
+    else a name for the system's loader."""
     given = os.environ.get("RIM_LIBRARY")
-    if given:
-        return os.path.join(given, SONAME) if os.path.isdir(given) else os.path.abspath(given)
-    return next(inside(), SONAME)
+    if not given:
+        return next(built(os.path.dirname(os.path.abspath(__file__)), "so"), SONAME)
+    if not os.path.isdir(given):
+        return os.path.abspath(given)
+    here = os.path.join(given, SONAME)
+    return here if os.path.exists(here) else next(built(given, SONAME[len("librim."):]), here)
 
 
 # ---- its calls

@@ -1,0 +1,177 @@
+"""The library librim in the place of the program: launches are measured in this process, and each of their files is read once for all runs.
+
+The Python package `rim` calls it (library/python). It is taken where it is of the program's version: only then are its answers the program's. Where
+one is found and cannot be used, that is said once, and the program is used; so it is where the variable RIM names a program, or RIM_LIBRARY is `no`.
+"""
+from __future__ import annotations
+
+import functools
+import glob
+import importlib
+import importlib.util
+import os
+import stat
+import sys
+import threading
+from collections.abc import Iterable
+from dataclasses import dataclass, field
+from types import ModuleType
+
+from . import ending, files, programs
+from .faults import Fault
+from .programs import Limits, Ran
+from .texts import last_line, visible
+
+# The variable that names the library, or says that none is used; the one that names the program.
+VARIABLE, NONE, PROGRAM = "RIM_LIBRARY", "no", "RIM"
+SONAME = "librim.so.0"
+# The checkout that these modules are of, where they are of one.
+TOP = os.path.dirname(os.path.dirname(os.path.dirname(os.path.abspath(__file__))))
+PACKAGE, DIST = os.path.join(TOP, "library", "python"), os.path.join(TOP, "dist")
+# The most bytes of a file, and how many bytes of files are held beside those of the runs that go on.
+MOST, MOST_HELD = 256 << 20, 512 << 20
+# A process of its own loads the library first: one that is cut short ends whoever loads it. What it says, and how long it may take.
+PROBE = ("import sys; sys.dont_write_bytecode = True; sys.path.insert(0, sys.argv[1]); import rim\n"
+         "try: print(rim.version())\n"
+         "except rim.NoLibrary as why: sys.exit(str(why))\n")
+PROBED = Limits(seconds=20)
+
+
+class Unfit(Exception):
+    """Why a library that is found is not used."""
+
+
+# ---- measuring
+
+
+@dataclass
+class Library:
+    """The library, by its package. Threads may measure at a time: the package lets go of the interpreter's lock. What is held of files was read once,
+    and is let go, the longest unused first, where it is too much."""
+
+    package: ModuleType
+    path: str
+    held: dict[str, bytes] = field(default_factory=dict)
+    lock: threading.Lock = field(default_factory=threading.Lock)
+
+    def measure(self, manifest: bytes, paths: Iterable[str], folder: str) -> Ran:
+        """What `rim measure` ends with and prints of a manifest whose files have these paths, as from a folder."""
+        given = {path: self.data(os.path.join(folder, path)) for path in paths}
+        try:
+            report = self.package.measure(manifest, given)
+        except self.package.RimError as why:
+            return Ran(4 if isinstance(why, self.package.NoMemory) else 3, b"", f"rim: {why.word}: {why}".encode(errors="surrogateescape"))
+        return Ran(int(report.is_refused), report.text.encode(), b"")
+
+    def data(self, path: str) -> bytes:
+        """The bytes of a file."""
+        with self.lock:
+            data = self.held.pop(path, None)
+            self.held[path] = files.read(path, MOST) if data is None else data
+            while sum(map(len, self.held.values())) > MOST_HELD and len(self.held) > 1:
+                del self.held[next(iter(self.held))]
+            return self.held[path]
+
+
+# ---- which one
+
+
+def is_anyones(path: str) -> bool:
+    """Whether others than the user and root may put something else at a path: it, or a folder above it, is theirs, or all may write to it. Into such
+    a folder as /tmp they may put what is new, and no more."""
+    part = os.path.realpath(path)
+    while True:
+        about = os.stat(part)
+        is_kept = stat.S_ISDIR(about.st_mode) and about.st_mode & stat.S_ISVTX
+        if about.st_uid not in (0, os.geteuid()) or about.st_mode & stat.S_IWOTH and not is_kept:
+            return True
+        if part == os.path.dirname(part):
+            return False
+        part = os.path.dirname(part)
+
+
+def check_place(path: str):
+    """Refuses what somebody else may have put at a path."""
+    try:
+        is_theirs = is_anyones(path)
+    except (OSError, ValueError) as why:
+        raise Unfit(f"{visible(path)}: {files.why_of(why)}, expected {SONAME}") from None
+    if is_theirs:
+        raise Unfit(f"{visible(path)}: others than the user may write there, expected a place of the user's or the system's")
+
+
+def check_named(path: str):
+    """Checks the place of a library that is named, or those of a folder."""
+    check_place(path)
+    for each in glob.glob(os.path.join(glob.escape(path), "librim*")):
+        check_place(each)
+
+
+def check_loader():
+    """Checks where the system's loader looks beside the system's own places."""
+    for folder in os.environ.get("LD_LIBRARY_PATH", "").split(":"):
+        path = os.path.join(folder or ".", SONAME)
+        if os.path.exists(path) and not os.path.isabs(folder):
+            raise Unfit(f"{visible(path)}: it is of the folder where the script is started, by LD_LIBRARY_PATH, expected an absolute path there")
+        if os.path.exists(path):
+            check_place(path)
+
+
+def package_at(is_named: bool) -> str | None:
+    """The folder that has the package: that of the checkout where a library is named or in dist/, and else the one that is installed first."""
+    own = PACKAGE if os.path.isfile(os.path.join(PACKAGE, "rim", "__init__.py")) else None
+    found = None if own and is_named else importlib.util.find_spec("rim")
+    if found is None or not found.origin:
+        return own
+    folder = os.path.dirname(os.path.dirname(os.path.abspath(found.origin)))
+    is_here = os.path.realpath(folder) == os.path.realpath(os.curdir) and folder != sys.path[0]
+    return own if is_here else folder
+
+
+def imported(folder: str) -> ModuleType:
+    """The package of a folder."""
+    sys.path.insert(0, folder)
+    try:
+        return importlib.import_module("rim")
+    finally:
+        sys.path.remove(folder)
+
+
+def fitting(version: str) -> Library | None:
+    """The library of this version; None where there is none."""
+    named = os.environ.get(VARIABLE) or (DIST if glob.glob(os.path.join(glob.escape(DIST), "librim-*.so.0")) else "")
+    folder = package_at(bool(named))
+    if folder is None:
+        return None
+    check_place(os.path.join(folder, "rim", "__init__.py"))
+    if named:
+        check_named(named)
+        os.environ[VARIABLE] = named
+    else:
+        check_loader()
+    try:
+        ran = programs.run([sys.executable, "-I", "-c", PROBE, folder], PROBED)
+    except Fault as why:
+        raise Unfit(f"{visible(named or SONAME)}: {why.lines[0]}") from None
+    if ran.status > 0 and not named:
+        return None
+    path = named or SONAME
+    if ran.status:
+        raise Unfit(f"{visible(path)}: {ran.said if ran.status > 0 else f'to load it ends by signal {-ran.status}'}, expected the library of rim")
+    its = last_line(ran.out.decode(errors="replace"), "none")
+    if its != version:
+        raise Unfit(f"{visible(path)}: it is of version {its}, expected that of the program, {version}")
+    return Library(imported(folder), path)
+
+
+@functools.cache
+def found(version: str, script: str) -> Library | None:
+    """The library to use in the place of a program of this version; None where the program is used. Why one that is found is not used, the script
+    says, once."""
+    if os.environ.get(PROGRAM) or os.environ.get(VARIABLE) == NONE:
+        return None
+    try:
+        return fitting(version)
+    except Unfit as why:
+        ending.say(script, f"the library is not used, and the program is: {why}")
+        return None
