@@ -470,7 +470,8 @@ def rounds(_path: str) -> list[str]:
 
 
 def too_few(_path: str) -> list[str]:
-    """Launches that are too few for a run are in one with those of the next round, and else in the last one; each counts in its own round."""
+    """Launches that are too few for a run are in one with those of the next round, and else in the last one; each counts in its own round. None waits
+    for more than a window or two."""
     filed = [Candidate(number, f"{number:06}", ((number, 1),), frozenset([NamedFile(f"f{number}", 1)])) for number in range(70)]
     wrong = []
     for more, sizes in ((launches_of([1] * 100)[70:], [64, 36]), ([], [64, 6])):
@@ -478,6 +479,10 @@ def too_few(_path: str) -> list[str]:
         looked.found_in([search.Planned("one", filed), search.Planned("two", more)])
         wrong += differs("runs", [len(each) for each in runs.given], sizes)
         wrong += differs("rounds", [(each.tried, each.is_whole) for each in looked.rounds], [(70, True), (len(more), True)])
+    made = itertools.count(1)
+    runs, looked = engine(30_000, hit=9_000)
+    looked.found("many", (each for each in launches_of([1] * 30_000) if next(made)))
+    wrong += differs("none waits for long", next(made) < 9_000 + 4 * 4096, True)
     runs, looked = engine(hit=66)
     hit = looked.found_in([search.Planned("one", filed), search.Planned("two", launches_of([1] * 100)[70:])])
     return wrong + differs("the one that waited", (hit and hit.key, [each.tried for each in looked.rounds]), (66, [67, 0]))

@@ -27,7 +27,8 @@ LARGE = 1 << 22
 # A launch of more steps than this, and than twice those of the first one, is put aside until the end of its round, or until there are FIRST such,
 # and later more, so that those which begin alike are in one run: RAM in pages of 4 KiB takes as long as hundreds of other launches.
 COSTLY = 1 << 12
-# A run of fewer launches than an eighth of all that were made waits for more, those of the next round too: its files take as long as those of many.
+# A run that is not full and has fewer launches than an eighth of all that were made waits for more, once, those of the next round too: its files take
+# as long as those of many.
 FEW = 8
 # How many launches are looked at for each one that may be tried: many were tried, or can't be.
 LOOKED_AT = 20
@@ -75,9 +76,9 @@ def large_of(each: Candidate) -> list[str]:
     return sorted(file.name for file in each.files if file.length >= LARGE)
 
 
-def in_runs(some: Sequence[Candidate]) -> Iterator[list[Candidate]]:
-    """Launches for a run each. `rim measure` takes the steps once with which launches of a run begin, and each run reads and hashes the files
-    anew: so a run has those with the same large files, and of these those that begin alike. It has them in their order, the likeliest first."""
+def places_in_runs(some: Sequence[Candidate]) -> list[list[int]]:
+    """The places of launches for a run each, of which all but the last are full. `rim measure` takes the steps once with which launches of a run
+    begin, and each run hashes the files anew: so a run has those with the same large files, and of these those that begin alike."""
     ranks: dict[Hashable, int] = {}
     begin = [[ranks.setdefault(part, len(ranks)) for part, _ in each.parts] for each in some]
     found, here, steps = list[list[int]](), set[NamedFile](), 0
@@ -92,7 +93,13 @@ def in_runs(some: Sequence[Candidate]) -> Iterator[list[Candidate]]:
             steps += each.steps_after(some[found[-1][-1]])
         here = both
         found[-1].append(place)
-    yield from ([some[place] for place in places] for places in sorted(map(sorted, found)))
+    return found
+
+
+def in_runs(some: Sequence[Candidate], found: Sequence[list[int]] | None = None) -> Iterator[list[Candidate]]:
+    """Launches for a run each, by their places or by those of places_in_runs, both in their order: the likeliest first."""
+    for places in sorted(map(sorted, places_in_runs(some) if found is None else found)):
+        yield [some[place] for place in places]
 
 
 @dataclass
@@ -243,17 +250,17 @@ class Search:
                 yield from self.filled(some)
                 some, among = [], self.among
         if self.fitting is None:
-            yield from self.filled(some)
-            yield from self.filled(late)
+            for each in filter(None, (some, late)):
+                yield from self.filled(each)
 
     def filled(self, some: list[Candidate]) -> Iterator[list[Candidate]]:
-        """Launches for a run each, with those that were too few before. Those that are too few now wait."""
-        several, self.over = list(in_runs([*self.over, *some])), []
-        for each in several:
-            if FEW * len(each) < self.made:
-                self.over += each
-            else:
-                yield each
+        """Launches for a run each, with those that were too few before. The last of them, where they are too few and none has waited before, wait."""
+        waited = len(self.over)
+        every = [*self.over, *some]
+        found, self.over = places_in_runs(every), []
+        if found and FEW * len(found[-1]) < self.made and min(found[-1]) >= waited:
+            self.over = [every[place] for place in sorted(found.pop())]
+        yield from in_runs(every, found)
 
     def taken(self, run: Begun) -> Candidate | None:
         """What came of a run: the launch that was looked for, where it is among these. Those of a run that was not begun are as if they were not
