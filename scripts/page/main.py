@@ -8,9 +8,9 @@ from collections.abc import Iterable
 
 from comparer import differ, report
 from comparer.report import Report
-from outside import ending, files, programs
+from outside import ending, files
 from outside.faults import Fault
-from outside.rim import Rim
+from outside.rim import Rim, started
 from outside.texts import visible
 
 from . import changes, picture, reading, release_page, sides, words
@@ -19,13 +19,6 @@ from .words import ABOUT, ALONE, Words
 
 # The longest report that is read.
 MOST = 64 << 20
-
-
-def begun() -> Rim:
-    """The program that computes; it may be started in another folder."""
-    rim = Rim(os.path.abspath(programs.found()))
-    programs.check(rim.path)
-    return rim
 
 
 def check_no_input(out: str, inputs: Iterable[str]):
@@ -120,11 +113,11 @@ def run(all_words: list[str]) -> int:
         return 0
     words.check(said)
     if "--svg" in said.flags:
-        return of_map(begun(), said)
+        return of_map(started(), said)
     out = said.out or "-"
     if out != "-":
         files.may_be_made(out, said.is_forced)
-    return (of_two if "--diff" in said.flags else of_release)(begun(), said, out)
+    return (of_two if "--diff" in said.flags else of_release)(started(), said, out)
 
 
 def main(all_words: list[str]) -> int:
