@@ -4,7 +4,7 @@
     tests/in_process.py [PROGRAM] [LIBRARY]      by default the program that `rt ci` has built, and the library of dist/, where that has one
 
 - Answers, statuses and what is said are those of PROGRAM, by a stand-in for the library that starts PROGRAM (tests/library/standing_in.c), and by LIBRARY.
-- The stand-in is called; it is not where RIM names a program, where RIM_LIBRARY is `no`, and where it is of another version.
+- The stand-in is called; it is not where RIM names a program, where RIM_LIBRARY does not name it, and where it is of another version.
 - A library that is cut short, that is none, that is not there, and that others may have put there is not used; that is said in one line.
 - A signal ends a search within the time of a call, and what was tried is said.
 
@@ -155,16 +155,12 @@ def anyones(here: Here) -> list[str]:
     return not_used(here, "others than the user may write there", os.path.join(made.path, SONAME))
 
 
-def of_here(here: Here) -> list[str]:
-    """What is found only because of the folder in which the script is started is not used."""
+def not_named(here: Here) -> list[str]:
+    """What no variable names is not used, wherever it is."""
     made, words = value_of(here, SOME[0])
     shutil.copy(here.library, made.path)
-    wrong = []
-    for paths in (".", "/none:", ":/none"):
-        status, _, said, calls = here.run(made, "rim-match", *words, RIM_LIBRARY="", LD_LIBRARY_PATH=paths)
-        wrong += differs(paths, (status, calls, "expected an absolute path there" in said), (0, 0, True))
     status, _, said, calls = here.run(made, "rim-match", *words, RIM_LIBRARY="", LD_LIBRARY_PATH=made.path)
-    return wrong + differs("an absolute path", (status, calls > 0, said), (0, True, ""))
+    return differs("what is used", (status, calls, said), (0, 0, ""))
 
 
 def stopped(here: Here) -> list[str]:
@@ -199,9 +195,8 @@ def all_tries(here: Here, library: str):
         yield "another version", lambda: not_used(here, "it is of version 0.0.1, expected that of the program", here.library, FAKE_VERSION="0.0.1")
         yield "no library", lambda: not_used(here, "expected the library of rim", os.path.join(TOP, "README.md"))
         yield "it is gone", lambda: not_used(here, "No such file or directory", "/none/librim.so.0")
-        yield "RIM_LIBRARY=no", lambda: not_used(here, "", "no")
         yield "RIM", lambda: not_used(here, "", here.library, RIM=here.program)
-        for look in (cut_short, anyones, of_here, stopped):
+        for look in (cut_short, anyones, not_named, stopped):
             yield look.__name__, lambda look=look: look(here)
     else:
         print("in_process.py: not asked: a stand-in for the library, since no C compiler is installed")

@@ -20,7 +20,7 @@ from .runs import AT_ONCE, MOST_FILES, MOST_LAUNCHES, Candidate, NamedFile, Outc
 # launch's own, or small.
 MOST_STEPS, MOST_BYTES = 1 << 23, 1 << 28
 # Among how many launches those that share their first steps are looked for: among few at first, since what is likely is found at once, and then
-# among GROWTH times as many as were made before; at most among so many, or so many where they have many steps, since then these take the time.
+# among GROWTH times as many as were made before; at most among MOST_AMONG, or MOST_AMONG_LONG where they have many steps, since then these take the time.
 FIRST, GROWTH, MOST_AMONG, MOST_AMONG_LONG = 64, 2, 4 * MOST_LAUNCHES, 16 * MOST_LAUNCHES
 # A file of as many bytes takes as long to be read as launches take that share nothing.
 LARGE = 1 << 22

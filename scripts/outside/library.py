@@ -1,7 +1,8 @@
 """The library librim in the place of the program: launches are measured in this process, and each of their files is read once for all runs.
 
-The Python package `rim` calls it (library/python). It is taken where it is of the program's version: only then are its answers the program's. Where
-one is found and cannot be used, that is said once, and the program is used; so it is where the variable RIM names a program, or RIM_LIBRARY is `no`.
+The Python package `rim` calls it (library/python). It is taken where the variable RIM_LIBRARY names it, RIM names no program, and it is of the program's
+version: only then are its answers the program's. Where it cannot be used, that is said once, and the program is used. It is not looked for where it is
+not named, since the program was as quick or quicker in all searches that were timed.
 """
 from __future__ import annotations
 
@@ -22,12 +23,12 @@ from .faults import Fault
 from .programs import Limits, Ran
 from .texts import last_line, visible
 
-# The variable that names the library, or says that none is used; the one that names the program.
-VARIABLE, NONE, PROGRAM = "RIM_LIBRARY", "no", "RIM"
+# The variable that names the library; the one that names the program.
+VARIABLE, PROGRAM = "RIM_LIBRARY", "RIM"
 SONAME = "librim.so.0"
 # The checkout that these modules are of, where they are of one.
 TOP = os.path.dirname(os.path.dirname(os.path.dirname(os.path.abspath(__file__))))
-PACKAGE, DIST = os.path.join(TOP, "library", "python"), os.path.join(TOP, "dist")
+PACKAGE = os.path.join(TOP, "library", "python")
 # The most bytes of a file, and how many bytes of files are held beside those of the runs that go on.
 MOST, MOST_HELD = 256 << 20, 512 << 20
 # A process of its own loads the library first: one that is cut short ends whoever loads it. What it says, and how long it may take.
@@ -38,7 +39,7 @@ PROBED = Limits(seconds=20)
 
 
 class Unfit(Exception):
-    """Why a library that is found is not used."""
+    """Why a library that is named is not used."""
 
 
 # ---- measuring
@@ -107,25 +108,17 @@ def check_named(path: str):
         check_place(each)
 
 
-def check_loader():
-    """Checks where the system's loader looks beside the system's own places."""
-    for folder in os.environ.get("LD_LIBRARY_PATH", "").split(":"):
-        path = os.path.join(folder or ".", SONAME)
-        if os.path.exists(path) and not os.path.isabs(folder):
-            raise Unfit(f"{visible(path)}: it is of the folder where the script is started, by LD_LIBRARY_PATH, expected an absolute path there")
-        if os.path.exists(path):
-            check_place(path)
-
-
-def package_at(is_named: bool) -> str | None:
-    """The folder that has the package: that of the checkout where a library is named or in dist/, and else the one that is installed first."""
-    own = PACKAGE if os.path.isfile(os.path.join(PACKAGE, "rim", "__init__.py")) else None
-    found = None if own and is_named else importlib.util.find_spec("rim")
+def package_at() -> str | None:
+    """The folder that has the package: that of the checkout, or the one that is installed; None where there is neither. Of the folder where the script is
+    started it is none."""
+    if os.path.isfile(os.path.join(PACKAGE, "rim", "__init__.py")):
+        return PACKAGE
+    found = importlib.util.find_spec("rim")
     if found is None or not found.origin:
-        return own
+        return None
     folder = os.path.dirname(os.path.dirname(os.path.abspath(found.origin)))
     is_here = os.path.realpath(folder) == os.path.realpath(os.curdir) and folder != sys.path[0]
-    return own if is_here else folder
+    return None if is_here else folder
 
 
 def imported(folder: str) -> ModuleType:
@@ -137,41 +130,34 @@ def imported(folder: str) -> ModuleType:
         sys.path.remove(folder)
 
 
-def fitting(version: str) -> Library | None:
-    """The library of this version; None where there is none."""
-    named = os.environ.get(VARIABLE) or (DIST if glob.glob(os.path.join(glob.escape(DIST), "librim-*.so.0")) else "")
-    folder = package_at(bool(named))
+def fitting(version: str, named: str) -> Library:
+    """The library that is named, where it is of this version."""
+    folder = package_at()
     if folder is None:
-        return None
+        raise Unfit("the Python package rim is neither beside the scripts nor installed")
     check_place(os.path.join(folder, "rim", "__init__.py"))
-    if named:
-        check_named(named)
-        os.environ[VARIABLE] = named
-    else:
-        check_loader()
+    check_named(named)
     try:
         ran = programs.run([sys.executable, "-I", "-c", PROBE, folder], PROBED)
     except Fault as why:
-        raise Unfit(f"{visible(named or SONAME)}: {why.lines[0]}") from None
-    if ran.status > 0 and not named:
-        return None
-    path = named or SONAME
+        raise Unfit(f"{visible(named)}: {why.lines[0]}") from None
     if ran.status:
-        raise Unfit(f"{visible(path)}: {ran.said if ran.status > 0 else f'to load it ends by signal {-ran.status}'}, expected the library of rim")
+        raise Unfit(f"{visible(named)}: {ran.said if ran.status > 0 else f'to load it ends by signal {-ran.status}'}, expected the library of rim")
     its = last_line(ran.out.decode(errors="replace"), "none")
     if its != version:
-        raise Unfit(f"{visible(path)}: it is of version {its}, expected that of the program, {version}")
-    return Library(imported(folder), path)
+        raise Unfit(f"{visible(named)}: it is of version {its}, expected that of the program, {version}")
+    return Library(imported(folder), named)
 
 
 @functools.cache
 def found(version: str, script: str) -> Library | None:
-    """The library to use in the place of a program of this version; None where the program is used. Why one that is found is not used, the script
+    """The library to use in the place of a program of this version; None where the program is used. Why one that is named is not used, the script
     says, once."""
-    if os.environ.get(PROGRAM) or os.environ.get(VARIABLE) == NONE:
+    named = os.environ.get(VARIABLE)
+    if os.environ.get(PROGRAM) or not named:
         return None
     try:
-        return fitting(version)
+        return fitting(version, named)
     except Unfit as why:
         ending.say(script, f"the library is not used, and the program is: {why}")
         return None

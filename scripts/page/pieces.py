@@ -17,7 +17,7 @@ from outside import files
 from outside.faults import Fault
 from outside.rim import Rim
 
-# Up to so many launches it is as quick to ask for all by their own manifest.
+# Of this many launches or fewer, maps are asked for by their own manifest: that is as quick.
 FEW = 32
 
 

@@ -282,9 +282,10 @@ def source_name(vmm: Hypervisor, key: str) -> str:
 
 
 def go_to(folder: str):
-    """Has all paths read as from a folder; those of `rim` and of its library are of where it was started."""
+    """Has all paths read as from a folder; those of `rim` and of its library are of where it was started. A program's name alone is one of the PATH."""
     for name in ("RIM", "RIM_LIBRARY"):
-        if os.sep in os.environ.get(name, ""):
-            os.environ[name] = os.path.abspath(os.environ[name])
+        value = os.environ.get(name, "")
+        if os.sep in value or value and name != "RIM":
+            os.environ[name] = os.path.abspath(value)
     with files.faults_of(folder, "a folder"):
         os.chdir(folder)
