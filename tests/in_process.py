@@ -155,6 +155,13 @@ def anyones(here: Here) -> list[str]:
     return not_used(here, "others than the user may write there", os.path.join(made.path, SONAME))
 
 
+def is_fifo(here: Here) -> list[str]:
+    """A FIFO that nobody writes to: the search does not wait for it."""
+    made = Folder({})
+    os.mkfifo(os.path.join(made.path, SONAME))
+    return not_used(here, "it is neither a file nor a folder", os.path.join(made.path, SONAME))
+
+
 def not_named(here: Here) -> list[str]:
     """What no variable names is not used, wherever it is."""
     made, words = value_of(here, SOME[0])
@@ -196,7 +203,7 @@ def all_tries(here: Here, library: str):
         yield "no library", lambda: not_used(here, "expected the library of rim", os.path.join(TOP, "README.md"))
         yield "it is gone", lambda: not_used(here, "No such file or directory", "/none/librim.so.0")
         yield "RIM", lambda: not_used(here, "", here.library, RIM=here.program)
-        for look in (cut_short, anyones, not_named, stopped):
+        for look in (cut_short, anyones, is_fifo, not_named, stopped):
             yield look.__name__, lambda look=look: look(here)
     else:
         print("in_process.py: not asked: a stand-in for the library, since no C compiler is installed")

@@ -147,6 +147,18 @@ def put_files() -> list[str]:
     return wrong + [said] * (not said.endswith("/a: File exists, expected a folder in which files can be made"))
 
 
+def no_files() -> list[str]:
+    """What is there and is no file is never replaced: a device that root had replaced would be gone for all."""
+    wrong = []
+    with tempfile.TemporaryDirectory() as here:
+        fifo = os.path.join(here, "fifo")
+        os.mkfifo(fifo)
+        for path in (fifo, here, "/dev/null"):
+            said = fault_of(lambda path=path: files.may_be_made(path, True))
+            wrong += [f"{path}: {said}"] * (not said.startswith(f"{path}: it cannot be made"))
+    return wrong
+
+
 def read_data() -> list[str]:
     found = [(data[:40], fault_of(lambda call=call, data=data: call("x", data)), expected) for call, data, expected in DATA]
     return [f"{data!r}: {said!r}, expected {expected!r}" for data, said, expected in found if not said.startswith(expected)]
@@ -438,7 +450,7 @@ def trees(program: str) -> list[str]:
 
 def run_all() -> int:
     program = program_of(sys.argv[1:])
-    looks = {look.__name__: look for look in (shown_texts, read_files, copied_files, put_files, read_data, run_programs, stopped, ends, versions)}
+    looks = {look.__name__: look for look in (shown_texts, read_files, copied_files, put_files, no_files, read_data, run_programs, stopped, ends, versions)}
     looks |= {look.__name__: partial(look, program) for look in (images, trees, oldest)}
     return told([(name, look()) for name, look in looks.items()])
 

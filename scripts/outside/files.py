@@ -87,11 +87,11 @@ def write(path: str, data: bytes, name: str = "", length: int | None = None):
 
 
 def may_be_made(path: str, is_forced: bool) -> str:
-    """Where a file is that `put` is to make. One that is there already is a fault, unless it may be replaced."""
+    """Where a file is that `put` is to make. One that is there already is a fault, unless it may be replaced; a folder, a FIFO and a device never are."""
     if os.path.lexists(path) and not is_forced:
         raise Fault(f"{visible(path)}: it exists, expected a new file, or --force")
     folder = os.path.dirname(os.path.abspath(path))
-    if not os.access(folder, os.W_OK) or os.path.isdir(path):
+    if not os.access(folder, os.W_OK) or os.path.exists(path) and not os.path.isfile(path):
         raise Fault(f"{visible(path)}: it cannot be made, expected a file in a folder that can be written")
     return os.path.realpath(path)
 

@@ -102,8 +102,10 @@ def check_place(path: str):
 
 
 def check_named(path: str):
-    """Checks the place of a library that is named, or those of a folder."""
+    """Checks the place of a library that is named, or those of a folder. A FIFO or a device is none: to load it might never end."""
     check_place(path)
+    if not os.path.isfile(path) and not os.path.isdir(path):
+        raise Unfit(f"{visible(path)}: it is neither a file nor a folder, expected {SONAME}")
     for each in glob.glob(os.path.join(glob.escape(path), "librim*")):
         check_place(each)
 
