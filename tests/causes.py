@@ -20,7 +20,7 @@ import struct
 import subprocess
 import sys
 
-from helpers import TOP
+from helpers import SECONDS, TOP
 from helpers.files import image
 from helpers.folders import Folder
 from helpers.tries import at_a_time, differs, program_of, told
@@ -249,7 +249,7 @@ def not_named(program: str) -> list[str]:
     here = Folder(FILES)
     value = value_of(program, here, manifest(launch(), paths={"initrd": "initrd-2"}))
     here.put("m.toml", manifest(launch()))
-    status, out, said = match(program, here, "m.toml", "vm", value)
+    status, out, said = match(program, here, "--seconds", str(SECONDS), "m.toml", "vm", value)
     has = [part in out for part in ("one change: ", "two likely changes: ", "--far tries more", "--file NAME=OTHER", "--append-file", "--also", "--kept")]
     return differs("not named", (status, said, all(has)), (1, "", True))
 

@@ -28,7 +28,7 @@ import time
 import tomllib
 from dataclasses import replace
 
-from helpers import MIB, SCRIPTS, TOP
+from helpers import MIB, SCRIPTS, SECONDS, TOP
 from helpers.files import image, tree
 from helpers.folders import Folder
 from helpers.guests import LOW
@@ -647,11 +647,11 @@ def stopped(program: str) -> list[str]:
         os.makedirs(made)
         ran = subprocess.Popen([START, "--far", "m.toml", "plain", NEVER], cwd=here.path, stdout=subprocess.PIPE, stderr=subprocess.PIPE,
                                text=True, env=os.environ | {"RIM": program, "TMPDIR": made})
-        until = time.monotonic() + 30
+        until = time.monotonic() + SECONDS
         while not any("search-3.toml" in names for _, _, names in os.walk(made)) and time.monotonic() < until:
             time.sleep(0.001)
         ran.send_signal(number)
-        out, said = ran.communicate(timeout=30)
+        out, said = ran.communicate(timeout=SECONDS)
         has = re.match(r'launch "plain" does not have the value, and none of [\d,]+ launches near it has\n'
                        r'  no launch of the manifest has it as it is\n  parts of other launches: \d+', out) is not None
         came = ran.returncode, without_progress(said), has, out.endswith("\n  the search was stopped\n"), os.listdir(made)

@@ -153,11 +153,12 @@ def of_library(target: library.Library) -> list[tuple[int, int]]:
 
 
 def passed_by(name: str, *words: str, is_emulated: bool = False) -> tuple[int, int]:
-    """How much a test passes with a program, or a library, and how much fails. What it leaves in its folder for temporary files is taken away."""
+    """How much a test passes with a program, or a library, and how much fails. What it leaves in its folder for temporary files is taken away. It heeds
+    signals, whatever this ignores: what sends them would wait else."""
     print(f"--- {name}", flush=True)
     with files.folder("rim-test-") as here:
         changed = [f"TMPDIR={here}", *([f"RIM_TEST_PATIENCE={PATIENCE}"] if is_emulated else [])]
-        ran = native.run(["env", *changed, sys.executable, os.path.join(TOP, "tests", name), *words])
+        ran = native.run(["env", "--default-signal=INT,HUP", *changed, sys.executable, os.path.join(TOP, "tests", name), *words])
     said = ran.out.decode(errors="replace")
     print(said, ran.err.decode(errors="replace"), sep="", end="", flush=True)
     found = re.match(r"(\d+) passed, (\d+) failed", (said.strip().splitlines() or [""])[-1])
