@@ -5,6 +5,7 @@ mod chain_order;
 mod closing;
 mod grouping;
 mod lending;
+mod one_worker;
 mod own_needs;
 mod preferences;
 mod share;
@@ -18,7 +19,9 @@ pub use job_core::{
 };
 pub use job_tasks::{
     ChainedLaunch, HashedPage, KeptPrefix, LaunchTask, OwnPrefix, OwnValue, PageTask, Run, Work,
-    begin_each, most_stops, put_values, run_to_stop, set_stop,
+    WorkerRow, begin_each, filled_task, most_stops, plan_at, put_values, run_to_stop, set_stop,
+    worker_rows,
 };
+pub use one_worker::{LaunchGroup, LaunchGroups, most_lanes};
 pub use share::Share;
 pub use state::BoardState;

@@ -5,8 +5,9 @@ ghost use Rattle.page_jobs.specs.Page.{digest_of, page_view};
 ghost use Rattle.rim_chain.specs.Chains.{IsUnderWay};
 ghost use Rattle.launch_plan.specs.Links.{chain_of};
 ghost use Rattle.rim_chain.specs.SharedPrefixes.{IsOwnPrefix};
-ghost use Rattle.job_tasks.specs.Tasks.{IsOwnLaunch, whole_table};
+ghost use Rattle.job_tasks.specs.Tasks.{IsOwnLaunch, IsOwnValue, whole_table};
 
+use crate::rows::WorkerRow;
 use crate::run::Run;
 use page_jobs::{DigestRow, Hashed, Page, PageJob};
 use rim_chain::{LaunchChain, LaunchJob, LaunchRim, Prefix};
@@ -115,6 +116,13 @@ impl<L: Run> OwnValue<L> {
         ensures { result ≡ self.now }
     {
         self.number
+    }
+
+    /// The measurement itself.
+    pub fn value(&self) -> Measurement
+        ensures { IsOwnValue L.pages L.plans self.now result }
+    {
+        self.value
     }
 }
 
@@ -330,6 +338,12 @@ impl<'a, L: Run> LaunchTask<'a, L> {
     /// The row, to be filled for another launch.
     pub fn into_row(self) -> DigestRow {
         self.job.into_row()
+    }
+
+    /// The row of the worker that chains the launch, with the digests of the launch's pages.
+    pub fn into_worker_row(self) -> WorkerRow<'a, L> {
+        let plan = self.job.plan();
+        WorkerRow::of_launch(plan, self.job.into_row())
     }
 }
 

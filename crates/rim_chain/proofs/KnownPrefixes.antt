@@ -1,9 +1,9 @@
 -- Prefixes whose values are known: of which launches they are, and what keeps them.
-use Rattle.std.proofs.Common.{rules, ◌≡◌, ◌⊎◌, inl, inr, ℕ, zero, suc, ◌+◌, ◌∙◌, refl, sym, ap, subst, arith, true, List, [], ◌∷◌, ◌++◌, length, map, set, get_or, take, drop, replicate, Option, Some, None}
+use Rattle.std.proofs.Common.{rules, ◌≡◌, ◌⊎◌, inl, inr, ℕ, zero, suc, ◌+◌, ◌∙◌, refl, sym, ap, subst, arith, true, List, [], ◌∷◌, ◌++◌, length, map, set, get_or, take, drop, Option, Some, None}
 use Rattle.std.specs.Prelude.{IfSome}
 use Rattle.std.specs.List.{All, Contains, filter_map, slice_get}
 use Rattle.std.specs.Option.{option_map}
-use Rattle.std.proofs.lemmas.List.{length-append, length-take-le, take-append-drop, take_all}
+use Rattle.std.proofs.lemmas.List.{length-append, length-take-le, take-append-drop}
 use Rattle.std.proofs.lemmas.List.Concat.{flat_map-append}
 use Rattle.std.proofs.lemmas.List.Elements.{All-contains, All-set}
 use Rattle.std.proofs.lemmas.Option.{get_or_from_slice_get, same_Some, slice_get-map, slice_get_within}
@@ -13,13 +13,10 @@ use Rattle.page_jobs.specs.declared.page.PageKey.{PageKey}
 use Rattle.launch_plan.specs.Prefixes.{IsPrefix, prefix_of, prefix_value}
 use Rattle.launch_plan.specs.Links.{PlanView, chain_of, keys_in, keys_of}
 use Rattle.launch_plan.specs.Rows.{IsRowOf, has_all, value_in}
-use Rattle.rim_chain.specs.SharedPrefixes.{AreShared, HaveOwnPrefixes, HaveOwnValues, IsKept, IsOwnPrefix, IsValueOfPrefix}
-use Rattle.launch_plan.specs.declared.link.Link.{Link}
+use Rattle.rim_chain.specs.SharedPrefixes.{AreShared, HaveOwnValues, IsKept, IsOwnPrefix, IsValueOfPrefix}
 use Rattle.launch_plan.specs.declared.prefix.Prefix.{Prefix}
 use Rattle.launch_plan.specs.declared.prefix.Checkpoint.{Checkpoint}
-use Rattle.rim_chain.specs.declared.starting.Start.{Start}
 use Rattle.rim_chain.specs.inside.Checkpoints.{BothHavePrefix, HaveNoValues}
-use Rattle.rim_chain.specs.inside.Starts.{IsStart}
 use Rattle.launch_plan.proofs.RowsLinkByLink.{row-length, row-parts}
 
 -- ---- a row of a table's digests
@@ -141,49 +138,8 @@ shared-prefix t plans checkpoints a b own n v p shared at has both plan =
       value = h.value ∙ ap (value_in t) prefixes;
     })
 
--- ---- the prefixes of launches that are chained from their realms on
-
-pub no-prefixes : (t : TableView) (plans : List PlanView) (n : ℕ) → HaveOwnPrefixes t plans (replicate n None)
-no-prefixes t plans n l f at = absurd (none n l at)
-  where
-    none : (n l : ℕ) → slice_get (replicate n None) l ≡ Some (Some f) → ⊥
-    none zero l at = cc
-    none (suc n) zero at = cc
-    none (suc n) (suc l) at = none n l at
-
-pub prefixes-set : (t : TableView) (plans : List PlanView) (prefixes new : List (Option Prefix)) (n : ℕ) (f : Prefix) → new ≡ set prefixes n (Some f)
-    → IsOwnPrefix t plans n f → HaveOwnPrefixes t plans prefixes → HaveOwnPrefixes t plans new
-prefixes-set t plans prefixes new n f is own all = λ l g at. elim (set-cases prefixes n l (Some f) (Some g) (ap (λ (fs : List (Option Prefix)). slice_get fs l) (sym is) ∙ at)) [
-  | inl here ↦ subst (λ (m : ℕ). IsOwnPrefix t plans m g) (sym here.0) (subst (IsOwnPrefix t plans n) (same_Some f g here.1) own)
-  | inr there ↦ all l g there
-]
-
-pub known-first : (t : TableView) (plans : List PlanView) (prefixes : List (Option Prefix)) (l : ℕ) (first : Option Prefix) → HaveOwnPrefixes t plans prefixes
-    → IfSome first (λ f. slice_get prefixes l ≡ Some (Some f)) → IfSome first (IsOwnPrefix t plans l)
-known-first t plans prefixes l first all = if-some (λ f. slice_get prefixes l ≡ Some (Some f)) (IsOwnPrefix t plans l) (all l) first
-
 -- a prefix with the digests of the plan's row is the launch's own
 pub row-prefix : (t : TableView) (plans : List PlanView) (l n : ℕ) (p : PlanView) (digests : List Measurement) (v : Measurement) → slice_get plans l ≡ Some p
     → IsRowOf t (keys_of p.links) digests → IsPrefix p digests (record { links = n; value = v }) → IsOwnPrefix t plans l (record { links = n; value = v })
 row-prefix t plans l n p digests v own row prefix = λ q at.
     subst (λ (r : PlanView). IsValueOfPrefix t r n v) (same_Some p q (sym own ∙ at)) (known-prefix t p n v digests row prefix)
-
--- all of a plan is a prefix of it
-whole-plan : (p : PlanView) → prefix_of (length p.links) p ≡ p
-whole-plan p = ap (λ (links : List Link). let q : PlanView = record { params = p.params; links = links } in q) (take_all (length p.links) p.links (omega arith))
-
-pub whole-prefix : (t : TableView) (plans : List PlanView) (l : ℕ) (p : PlanView) (v : Measurement) → slice_get plans l ≡ Some p
-    → has_all t (keys_of p.links) ≡ true → v.bytes ≡ value_in t p → IsOwnPrefix t plans l (record { links = length p.links; value = v })
-whole-prefix t plans l p v own full value = λ q at.
-    subst (λ (r : PlanView). IsValueOfPrefix t r (length p.links) v) (same_Some p q (sym own ∙ at)) (record {
-      within = omega arith;
-      full = ap (λ (r : PlanView). has_all t (keys_of r.links)) (whole-plan p) ∙ full;
-      value = value ∙ ap (value_in t) (sym (whole-plan p));
-    })
-
-pub whole-value : (t : TableView) (p : PlanView) (n : ℕ) (v : Measurement) → n ≡ length p.links → IsValueOfPrefix t p n v → v.bytes ≡ value_in t p
-whole-value t p n v is known = known.value ∙ ap (value_in t) (ap (λ m. prefix_of m p) is ∙ whole-plan p)
-
-pub start-prefix : (t : TableView) (plans : List PlanView) (s : Start) (p : PlanView) (digests : List Measurement) (v : Measurement) → IsStart t plans s p digests
-    → v.bytes ≡ prefix_value s.links p digests → IsOwnPrefix t plans s.number (record { links = s.links; value = v })
-start-prefix t plans s p digests v start value = row-prefix t plans s.number s.links p digests v start.own start.row (start.links, value)

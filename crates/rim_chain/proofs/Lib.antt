@@ -10,5 +10,3 @@ pub mod PrefixValues
 pub mod ChainsOfOwnPages
 -- A chain under way takes its parts one by one. A link without parts can be left out, so it takes the link after it.
 pub mod PartByPart
--- Chains that are extended side by side come to what they did.
-pub mod EachChain

@@ -1,5 +1,5 @@
 -- The prefixes that launches of a run have in common. This project's choice.
-use Rattle.std.specs.Prelude.{◌≡◌, ℕ, ◌≤◌, true, List, length, slice_set, take, Option, None, Some, IfSome}
+use Rattle.std.specs.Prelude.{◌≡◌, ℕ, ◌≤◌, true, List, length, slice_set, take, None, Some, IfSome}
 use Rattle.std.specs.List.{All, slice_get}
 use Rattle.rim_desc.specs.declared.measurement.Measurement.{Measurement}
 use Rattle.page_jobs.specs.Table.{TableView}
@@ -26,10 +26,6 @@ AreShared t plans checkpoints = (l : ℕ) (p : PlanView) (own : List Checkpoint)
 -- a prefix is that of the launch of a number
 abbrev pub IsOwnPrefix : TableView → List PlanView → ℕ → Prefix → Type 0
 IsOwnPrefix t plans l f = (p : PlanView) → slice_get plans l ≡ Some p → IsValueOfPrefix t p f.links f.value
-
--- each prefix is its launch's own
-abbrev pub HaveOwnPrefixes : TableView → List PlanView → List (Option Prefix) → Type 0
-HaveOwnPrefixes t plans prefixes = (l : ℕ) (f : Prefix) → slice_get prefixes l ≡ Some (Some f) → IsOwnPrefix t plans l f
 
 -- the value of a prefix was put at a checkpoint after its links that had none, and the others stay
 pub record IsPutAmong (old : List Checkpoint) (f : Prefix) (new : List Checkpoint) : Type 0 where

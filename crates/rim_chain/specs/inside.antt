@@ -1,4 +1,3 @@
 pub mod Checkpoints
 pub mod Places
-pub mod Starts
 pub mod UnderWay

@@ -1,19 +1,15 @@
 //! Measurements extended link by link.
 ghost use Rattle.std.specs.Prelude.{◌≡◌, ◌+◌, ◌*◌, ◌^◌, ◌<◌, ◌≤◌, List, length, map, IfSome, None, Some};
-ghost use Rattle.std.specs.List.{slice_get};
 ghost use Rattle.rim_desc.specs.Part.{Data, extended_by};
 ghost use Rattle.rim_desc.specs.declared.measurement.Measurement.{Measurement};
 ghost use Rattle.rmm_model.specs.Blocks.{granules};
-ghost use Rattle.page_jobs.specs.Table.{TableView};
 ghost use Rattle.launch_plan.specs.Prefixes.{IsPrefix, prefix_value};
 ghost use Rattle.launch_plan.specs.Links.{PlanView, chain_of, keys_of, link_parts, page_count, pages_with};
-ghost use Rattle.launch_plan.specs.Rows.{IsFilled, IsRowOf};
-ghost use Rattle.rim_chain.specs.SharedPrefixes.{AreShared};
+ghost use Rattle.launch_plan.specs.Rows.{IsFilled};
 ghost use Rattle.launch_plan.specs.Fitting.{IsFitting};
 ghost use Rattle.rim_chain.specs.inside.Places.{IsPlace};
 ghost use Rattle.rim_desc.specs.declared.page.TheConstants.{PAGE_SIZE};
 
-use crate::shared_prefixes::SharedPrefixes;
 use launch_plan::{LaunchPlan, Link, Prefix, page_count};
 use page_jobs::DigestRow;
 use rim_desc::{
@@ -94,70 +90,6 @@ pub(crate) fn chain_on(plan: &LaunchPlan, row: &DigestRow, from: Place) -> Measu
     ensures { result.bytes ≡ chain_of plan.now row.now.digests }
 {
     chained_to(plan, row, from, plan.links().len()).value
-}
-
-/// The same measurement of the launch of a number, which goes on from a prefix whose value is known, where there is one. The
-/// values of its prefixes that others begin with are kept among those that launches have in common.
-pub fn chain_from(
-    plan: &LaunchPlan,
-    row: &DigestRow,
-    number: usize,
-    shared_prefix: Option<Prefix>,
-    prefixes: &mut SharedPrefixes,
-) -> Measurement
-    requires filled { IsFilled plan.now row.now.digests }
-    requires shared_prefix { IfSome shared_prefix (IsPrefix plan.now row.now.digests) }
-    ensures value { result.bytes ≡ chain_of plan.now row.now.digests }
-    ensures prefixes { (t : TableView) (ps : List PlanView) → slice_get ps number ≡ Some plan.now
-        → IsRowOf t (keys_of plan.now.links) row.now.digests
-        → AreShared t ps prefixes.old
-        → AreShared t ps prefixes.new }
-{
-    let mut place = place_of(plan, row, shared_prefix);
-    // Others may go on from the launch just there.
-    if let Some(prefix) = shared_prefix {
-        prefixes.keep(number, prefix);
-    }
-    for _ in 0..plan.links().len() {
-        let Some(next) = next_place(plan, row, place, prefixes.next_stop(number, place.links))
-        else {
-            break;
-        };
-        place = next;
-        prefixes.keep(number, place.prefix());
-    }
-    chain_on(plan, row, place)
-}
-
-/// The place after this many links, where the plan has as many, and the chain has not passed it.
-pub(crate) fn next_place(
-    plan: &LaunchPlan,
-    row: &DigestRow,
-    from: Place,
-    links: Option<usize>,
-) -> Option<Place>
-    requires filled { IsFilled plan.now row.now.digests }
-    requires from { IsPlace plan.now row.now.digests from }
-    ensures place { IfSome result (IsPlace plan.now row.now.digests) }
-    ensures links { IfSome result (λ place. links ≡ Some place.links) }
-{
-    let links = links?;
-    if links < from.links || plan.links().len() < links {
-        return None;
-    }
-    Some(chained_to(plan, row, from, links))
-}
-
-impl Place {
-    /// The prefix that ends here.
-    pub(crate) fn prefix(&self) -> Prefix
-        ensures { result ≡ record { links = self.now.links; value = self.now.value } }
-    {
-        Prefix {
-            links: self.links,
-            value: self.value,
-        }
-    }
 }
 
 /// The place where a prefix ends, or the one after the realm.

@@ -102,6 +102,13 @@ impl<'a> LaunchJob<'a> {
         self.number
     }
 
+    /// The plan of the launch, which is lent.
+    pub fn plan(&self) -> &'a LaunchPlan
+        ensures { result.now ≡ self.now.plan }
+    {
+        self.plan
+    }
+
     /// The algorithm that the launch is measured by.
     pub fn algo(&self) -> Algo
         ensures { result ≡ self.now.plan.params.algo }

@@ -6,10 +6,9 @@ mod job;
 mod laws;
 mod shared_prefixes;
 mod siblings;
-mod starting;
 mod under_way;
 
-pub use chaining::{chain, chain_from};
+pub use chaining::chain;
 pub use job::{LaunchJob, LaunchRim};
 pub use launch_plan::{Checkpoint, LaunchPlan, Link, Prefix, SharedPrefix, most_pages, page_key};
 pub use laws::{
@@ -17,5 +16,4 @@ pub use laws::{
     the_chain_is_what_a_monitor_holds,
 };
 pub use shared_prefixes::SharedPrefixes;
-pub use starting::{add_prefixes, first_prefixes, put_prefix};
-pub use under_way::{LaunchChain, fewest_together, go_on, no_chains, side_by_side};
+pub use under_way::{LaunchChain, fewest_together, go_on, no_chains};

@@ -8,10 +8,8 @@ ghost use Rattle.rim_chain.specs.SharedPrefixes.{AreShared, IsKept, IsOwnPrefix,
 ghost use Rattle.rim_chain.specs.inside.Checkpoints.{BothHavePrefix};
 
 use crate::siblings::{checkpoints_of, shared_prefixes_of};
-use crate::starting::Start;
 use launch_plan::{Checkpoint, LaunchPlan, Prefix, SharedPrefix};
 use refusal::NoMemory;
-use rim_desc::Algo;
 use std::alloc::Global;
 use std::marker::Model;
 
@@ -42,45 +40,6 @@ impl SharedPrefixes {
         Ok(SharedPrefixes {
             shared,
             checkpoints,
-        })
-    }
-
-    /// The launches by an algorithm that can be chained now and have no prefix in this list yet, the longest first.
-    pub(crate) fn starts(
-        &self,
-        alloc: Global,
-        plans: &[LaunchPlan],
-        algo: Algo,
-        prefixes: &[Option<Prefix>],
-    ) -> Result<Vec<Start>, NoMemory> {
-        let mut starts = Vec::with_capacity(alloc, plans.len())?;
-        for number in 0..plans.len() {
-            if plans[number].algo() == algo
-                && let Some(None) = prefixes.get(number)
-                && let Some(start) = self.start(plans, number, &plans[number])
-            {
-                starts.push(start)?;
-            }
-        }
-        starts.sort_unstable_by(|a, b| b.parts.cmp(&a.parts));
-        Ok(starts)
-    }
-
-    /// How far a launch can be chained now. One that goes on from no other can be chained up to where another first parts from it,
-    /// or all of it; one from which no other goes on can, where the prefix is known that it goes on from.
-    fn start(&self, plans: &[LaunchPlan], number: usize, plan: &LaunchPlan) -> Option<Start> {
-        let stop = checkpoints_at(self.checkpoints.as_slice(), number)?.first();
-        let from = match (self.shared.get(number)?, stop) {
-            (None, _) => 0,
-            (Some(_), None) => self.prefix(plans, number)?.links,
-            (Some(_), Some(_)) => return None,
-        };
-        let links = stop.map_or(plan.links().len(), |checkpoint| checkpoint.links);
-        let parts = plan.parts_before(links);
-        Some(Start {
-            number,
-            links,
-            parts: parts.saturating_sub(plan.parts_before(from)),
         })
     }
 

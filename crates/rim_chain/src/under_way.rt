@@ -268,18 +268,6 @@ fn extended_by_links(
     rim
 }
 
-/// Writes what chains come to, which go on side by side as far as that is quicker.
-pub fn side_by_side(chains: &mut [LaunchChain], values: &mut [Measurement])
-    requires few { length chains.old ≤ MOST_LANES }
-    requires values { length values.old ≡ length chains.old }
-    ensures { map (λ m. m.bytes) values.new ≡ map chains_to chains.old }
-{
-    'turns: for _ in 0..chains.len() {
-        go_on(chains);
-    }
-    finish_each(chains, values);
-}
-
 /// Lets chains go on: those by one algorithm side by side, until the first that others wait for has come to its end, or only few have
 /// parts left; or else one of them to its end, first one that others wait for. False where none has parts left. What side by side
 /// is quick are four, or eight by SHA-256: so as many are to be given, if need be some without parts.
@@ -428,15 +416,5 @@ fn set_each(chains: &mut [LaunchChain], values: &[Measurement], taken: &[bool])
         if taken[i] {
             chains[i].set(&values[i]);
         }
-    }
-}
-
-/// Writes what chains come to, one after another.
-fn finish_each(chains: &[LaunchChain], values: &mut [Measurement])
-    requires { length values.old ≡ length chains.now }
-    ensures { map (λ m. m.bytes) values.new ≡ map chains_to chains.now }
-{
-    'each: for i in 0..chains.len() {
-        values[i] = chains[i].finished();
     }
 }

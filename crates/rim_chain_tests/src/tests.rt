@@ -1,9 +1,9 @@
 //! The launch of these tests has two blocks of RAM, two pages of an item that begins 16 bytes after the start of its
 //! first page, a page that is not measured, and a REC. The item has 4097 bytes, of which byte i is (7 * i + 3) mod 251.
 mod chains;
-mod first_prefixes;
 mod going_on;
 mod plans;
+mod side_by_side;
 
 ghost use Rattle.launch_plan.specs.Links.{keys_of};
 ghost use Rattle.launch_plan.specs.Rows.{IsFilled, IsRowOf};

@@ -71,7 +71,7 @@ named-at items (key ∷ keys) zero q at = let same : page_named items key ≡ q 
 named-at items (key ∷ keys) (suc j) q at = named-at items keys j q at
 
 -- a row of the digests of a table that has them all
-row-of-all : (t : TableView) (keys : List PageKey) → has_all t keys ≡ true → IsRowOf t keys (filter_map (digest_at t) keys)
+pub row-of-all : (t : TableView) (keys : List PageKey) → has_all t keys ≡ true → IsRowOf t keys (filter_map (digest_at t) keys)
 row-of-all t [] all = refl
 row-of-all t (key ∷ keys) all = at (digest_at t key) refl (row-of-all t keys (and_parts _ _ all).1)
   where
