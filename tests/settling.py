@@ -25,6 +25,7 @@ import sys
 import time
 from dataclasses import dataclass, field
 
+from helpers import PATIENCE
 from helpers.files import image, tree
 from helpers.folders import Folder
 from helpers.guests import START, replaced
@@ -424,7 +425,7 @@ def stopped(program: str):
         ran = subprocess.Popen([START, *WITH_TREE, "--rim", "5a" * 32, "--", *QEMU], cwd=folder.path, stdout=subprocess.PIPE, stderr=subprocess.PIPE,
                                text=True)
         first = ran.stderr.readline()
-        time.sleep(1)
+        time.sleep(PATIENCE)
         ran.send_signal(signal.SIGINT)
         out, said = ran.communicate(timeout=SECONDS)
         wrong = differs("status", (ran.returncode, "combinations of 8 rows" in first, said), (130, True, ""))
