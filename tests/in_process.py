@@ -4,12 +4,16 @@
     tests/in_process.py [PROGRAM] [LIBRARY]      by default the program that `rt ci` has built, and the library of dist/, where that has one
 
 - Answers, statuses and what is said are those of PROGRAM, by a stand-in for the library that starts PROGRAM (tests/library/standing_in.c), and by LIBRARY.
-- The stand-in is called; it is not where RIM names a program, where RIM_LIBRARY does not name it, and where it is of another version.
-- A library that is cut short, that is none, that is not there, and that others may have put there is not used; that is said in one line.
+- The stand-in is called; it is not where RIM names a program, where RIM_LIBRARY is `no`, and where it is of another version.
+- A library that is cut short, that is none, that is not there, and that others may have put there is not used; where it was named, one line says so.
+- Where none is named, scripts that are installed call the one that the system's loader finds, and those of a checkout none.
 - A signal ends a search within the time of a call, and what was tried is said.
 
 The scripts are as they are installed, in a folder with PROGRAM. Where no C compiler is, the stand-in is not asked. The last line is 'N passed, M failed'.
 """
+from __future__ import annotations
+
+import copy
 import glob
 import os
 import shutil
@@ -38,20 +42,29 @@ class Here:
     """The scripts as they are installed, with a program, the package and a stand-in for the library."""
 
     def __init__(self, path: str, program: str):
-        self.path, self.program = path, program
-        os.makedirs(f"{path}/usr/bin")
+        self.program, self.scripts = program, f"{path}/usr/bin"
+        os.makedirs(self.scripts)
         for name in ("rim-match", "rim-manifest"):
-            shutil.copy(os.path.join(TOP, name), f"{path}/usr/bin/{name}")
+            shutil.copy(os.path.join(TOP, name), self.scripts)
         for name in ("outside", "matcher", "finder", "comparer", "vmm"):
             shutil.copytree(os.path.join(SCRIPTS, name), f"{path}/usr/share/rim/{name}", ignore=shutil.ignore_patterns("__pycache__"))
         shutil.copytree(os.path.join(TOP, "library", "python", "rim"), f"{path}/usr/share/rim/rim", ignore=shutil.ignore_patterns("__pycache__"))
-        os.symlink(program, f"{path}/usr/bin/rim")
+        os.symlink(program, f"{self.scripts}/rim")
         said = subprocess.run([program, "--version"], capture_output=True, text=True, check=True).stdout
         self.version = said.removeprefix("rim ").strip()
         self.library = ""
         if compiler():
             self.library = f"{path}/{SONAME}"
             subprocess.run([compiler(), *C_FLAGS, "-fPIC", "-shared", f"{HERE}/standing_in.c", "-o", self.library], check=True)
+
+    def as_checkout(self, top: str) -> Here:
+        """The same scripts as they are in a checkout, at this folder."""
+        made, modules = copy.copy(self), os.path.join(self.scripts, "../share/rim")
+        made.scripts = top
+        shutil.copytree(self.scripts, top, symlinks=True, dirs_exist_ok=True)
+        shutil.copytree(modules, f"{top}/scripts", ignore=shutil.ignore_patterns("rim"))
+        shutil.copytree(f"{modules}/rim", f"{top}/library/python/rim")
+        return made
 
     def environment(self, calls: str, **more: str) -> dict[str, str]:
         """What the scripts and the stand-in are told; an empty value is none."""
@@ -61,7 +74,7 @@ class Here:
     def run(self, made: Folder, script: str, *words: str, **more: str) -> tuple[int, str, str, int]:
         """The status, both outputs without the lines that say how far it is, and how many calls the stand-in got."""
         with tempfile.TemporaryDirectory() as calls:
-            ran = subprocess.run([f"{self.path}/usr/bin/{script}", *words], cwd=made.path, capture_output=True, text=True, timeout=5 * SECONDS,
+            ran = subprocess.run([f"{self.scripts}/{script}", *words], cwd=made.path, capture_output=True, text=True, timeout=5 * SECONDS,
                                  check=False, stdin=subprocess.DEVNULL, env=self.environment(calls, **more))
             count = len(open(f"{calls}/calls", encoding="utf-8").readlines()) if os.path.exists(f"{calls}/calls") else 0
         said = "".join(line for line in ran.stderr.splitlines(True) if " launches tried" not in line)
@@ -162,12 +175,27 @@ def is_fifo(here: Here) -> list[str]:
     return not_used(here, "it is neither a file nor a folder", os.path.join(made.path, SONAME))
 
 
-def not_named(here: Here) -> list[str]:
-    """What no variable names is not used, wherever it is."""
+def systems(here: Here) -> list[str]:
+    """The library that the system's loader finds, where none is named: it is called if it fits, and not if it was found only because of the folder in
+    which the script is started. Nothing is said of one that is not called."""
     made, words = value_of(here, SOME[0])
     shutil.copy(here.library, made.path)
-    status, _, said, calls = here.run(made, "rim-match", *words, RIM_LIBRARY="", LD_LIBRARY_PATH=made.path)
-    return differs("what is used", (status, calls, said), (0, 0, ""))
+    wrong = []
+    for paths, version, is_called in ((made.path, here.version, True), (made.path, "0.0.1", False), ("/none", here.version, False),
+                                      *((paths, here.version, False) for paths in (".", "/none:", ":/none", "/none;."))):
+        status, _, said, calls = here.run(made, "rim-match", *words, RIM_LIBRARY="", LD_LIBRARY_PATH=paths, FAKE_VERSION=version)
+        wrong += differs(f"{paths}, {version}", (status, calls > 0, said), (0, is_called, ""))
+    return wrong
+
+
+def of_checkout(here: Here) -> list[str]:
+    """Scripts of a checkout call no library that is not named: what the system or dist/ has may be of other sources than their program."""
+    made, words = value_of(here, SOME[0])
+    shutil.copy(here.library, made.path)
+    with tempfile.TemporaryDirectory() as top:
+        checkout = here.as_checkout(top)
+        called = [checkout.run(made, "rim-match", *words, RIM_LIBRARY=named, LD_LIBRARY_PATH=made.path) for named in ("", here.library)]
+    return differs("what is called", [(status, calls > 0, said) for status, _, said, calls in called], [(0, False, ""), (0, True, "")])
 
 
 def stopped(here: Here) -> list[str]:
@@ -176,7 +204,7 @@ def stopped(here: Here) -> list[str]:
     made.put("slow", f'#!/bin/sh\nsleep 2\nexec {here.program} "$@"\n'.encode(), True)
     with tempfile.TemporaryDirectory() as calls:
         environment = here.environment(calls, FAKE_RIM=os.path.join(made.path, "slow"))
-        ran = subprocess.Popen([f"{here.path}/usr/bin/rim-match", "m.toml", "plain", NEVER], cwd=made.path, stdout=subprocess.PIPE,
+        ran = subprocess.Popen([f"{here.scripts}/rim-match", "m.toml", "plain", NEVER], cwd=made.path, stdout=subprocess.PIPE,
                                stderr=subprocess.PIPE, text=True, env=environment)
         until = time.monotonic() + SECONDS
         while not os.path.exists(f"{calls}/calls") and time.monotonic() < until:
@@ -202,8 +230,9 @@ def all_tries(here: Here, library: str):
         yield "another version", lambda: not_used(here, "it is of version 0.0.1, expected that of the program", here.library, FAKE_VERSION="0.0.1")
         yield "no library", lambda: not_used(here, "expected the library of rim", os.path.join(TOP, "README.md"))
         yield "it is gone", lambda: not_used(here, "No such file or directory", "/none/librim.so.0")
+        yield "RIM_LIBRARY=no", lambda: not_used(here, "", "no")
         yield "RIM", lambda: not_used(here, "", here.library, RIM=here.program)
-        for look in (cut_short, anyones, is_fifo, not_named, stopped):
+        for look in (cut_short, anyones, is_fifo, systems, of_checkout, stopped):
             yield look.__name__, lambda look=look: look(here)
     else:
         print("in_process.py: not asked: a stand-in for the library, since no C compiler is installed")

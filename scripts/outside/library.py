@@ -1,8 +1,9 @@
 """The library librim in the place of the program: launches are measured in this process, and each of their files is read once for all runs.
 
-The Python package `rim` calls it (library/python). It is taken where the variable RIM_LIBRARY names it, RIM names no program, and it is of the program's
-version: only then are its answers the program's. Where it cannot be used, that is said once, and the program is used. It is not looked for where it is
-not named, since the program was as quick or quicker in all searches that were timed.
+The Python package `rim` calls it (library/python). It is taken where it is of the program's version: only then are its answers the program's. The variable
+RIM_LIBRARY names it, and where that cannot be used, it is said once, and the program is used. Where RIM_LIBRARY is not set, scripts that are installed take
+the system's, if there is one that fits. A checkout has changed sources perhaps, with an older library in dist/ or in the system, so there it has to be
+named. A user who names a program by the variable RIM, or sets RIM_LIBRARY to `no`, gets the program.
 """
 from __future__ import annotations
 
@@ -11,6 +12,7 @@ import glob
 import importlib
 import importlib.util
 import os
+import re
 import stat
 import sys
 import threading
@@ -23,8 +25,8 @@ from .faults import Fault
 from .programs import Limits, Ran
 from .texts import last_line, visible
 
-# The variable that names the library; the one that names the program.
-VARIABLE, PROGRAM = "RIM_LIBRARY", "RIM"
+# The variable that names the library, or says that none is used; the one that names the program.
+VARIABLE, NONE, PROGRAM = "RIM_LIBRARY", "no", "RIM"
 SONAME = "librim.so.0"
 # The checkout that these modules are of, where they are of one.
 TOP = os.path.dirname(os.path.dirname(os.path.dirname(os.path.abspath(__file__))))
@@ -39,7 +41,7 @@ PROBED = Limits(seconds=20)
 
 
 class Unfit(Exception):
-    """Why a library that is named is not used."""
+    """Why a library is not used."""
 
 
 # ---- measuring
@@ -110,10 +112,15 @@ def check_named(path: str):
         check_place(each)
 
 
+def is_checkout() -> bool:
+    """Whether these modules are of a checkout, with the package in it."""
+    return os.path.isfile(os.path.join(PACKAGE, "rim", "__init__.py"))
+
+
 def package_at() -> str | None:
     """The folder that has the package: that of the checkout, or the one that is installed; None where there is neither. Of the folder where the script is
     started it is none."""
-    if os.path.isfile(os.path.join(PACKAGE, "rim", "__init__.py")):
+    if is_checkout():
         return PACKAGE
     found = importlib.util.find_spec("rim")
     if found is None or not found.origin:
@@ -132,34 +139,43 @@ def imported(folder: str) -> ModuleType:
         sys.path.remove(folder)
 
 
+def is_looked_for() -> bool:
+    """Whether the system's library is taken where none is named: by scripts that are installed, unless the system's loader looks in the folder where they
+    are started."""
+    return not is_checkout() and all(map(os.path.isabs, re.split("[:;]", os.environ.get("LD_LIBRARY_PATH") or os.sep)))
+
+
 def fitting(version: str, named: str) -> Library:
-    """The library that is named, where it is of this version."""
+    """The library that is named, or else the system's, where it is of this version."""
     folder = package_at()
     if folder is None:
         raise Unfit("the Python package rim is neither beside the scripts nor installed")
     check_place(os.path.join(folder, "rim", "__init__.py"))
-    check_named(named)
+    if named:
+        check_named(named)
+    path = named or SONAME
     try:
         ran = programs.run([sys.executable, "-I", "-c", PROBE, folder], PROBED)
     except Fault as why:
-        raise Unfit(f"{visible(named)}: {why.lines[0]}") from None
+        raise Unfit(f"{visible(path)}: {why.lines[0]}") from None
     if ran.status:
-        raise Unfit(f"{visible(named)}: {ran.said if ran.status > 0 else f'to load it ends by signal {-ran.status}'}, expected the library of rim")
+        raise Unfit(f"{visible(path)}: {ran.said if ran.status > 0 else f'to load it ends by signal {-ran.status}'}, expected the library of rim")
     its = last_line(ran.out.decode(errors="replace"), "none")
     if its != version:
-        raise Unfit(f"{visible(named)}: it is of version {its}, expected that of the program, {version}")
-    return Library(imported(folder), named)
+        raise Unfit(f"{visible(path)}: it is of version {its}, expected that of the program, {version}")
+    return Library(imported(folder), path)
 
 
 @functools.cache
 def found(version: str, script: str) -> Library | None:
     """The library to use in the place of a program of this version; None where the program is used. Why one that is named is not used, the script
     says, once."""
-    named = os.environ.get(VARIABLE)
-    if os.environ.get(PROGRAM) or not named:
+    named = os.environ.get(VARIABLE, "")
+    if os.environ.get(PROGRAM) or named == NONE or not (named or is_looked_for()):
         return None
     try:
         return fitting(version, named)
     except Unfit as why:
-        ending.say(script, f"the library is not used, and the program is: {why}")
+        if named:
+            ending.say(script, f"the library is not used, and the program is: {why}")
         return None
