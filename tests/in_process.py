@@ -169,10 +169,10 @@ def anyones(here: Here) -> list[str]:
 
 
 def is_fifo(here: Here) -> list[str]:
-    """A FIFO that nobody writes to: the search does not wait for it."""
+    """A FIFO that nobody writes to, by its path and by that of its folder: the search does not wait for it."""
     made = Folder({})
     os.mkfifo(os.path.join(made.path, SONAME))
-    return not_used(here, "it is neither a file nor a folder", os.path.join(made.path, SONAME))
+    return [line for named in (os.path.join(made.path, SONAME), made.path) for line in not_used(here, "it is no file", named)]
 
 
 def systems(here: Here) -> list[str]:

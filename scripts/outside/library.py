@@ -106,10 +106,10 @@ def check_place(path: str):
 def check_named(path: str):
     """Checks the place of a library that is named, or those of a folder. A FIFO or a device is none: to load it might never end."""
     check_place(path)
-    if not os.path.isfile(path) and not os.path.isdir(path):
-        raise Unfit(f"{visible(path)}: it is neither a file nor a folder, expected {SONAME}")
-    for each in glob.glob(os.path.join(glob.escape(path), "librim*")):
+    for each in glob.glob(os.path.join(glob.escape(path), "librim*.so.0")) if os.path.isdir(path) else [path]:
         check_place(each)
+        if not os.path.isfile(each):
+            raise Unfit(f"{visible(each)}: it is no file, expected {SONAME}")
 
 
 def is_checkout() -> bool:
