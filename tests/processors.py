@@ -157,6 +157,8 @@ def passed_by(name: str, *words: str, is_emulated: bool = False) -> tuple[int, i
     signals, whatever this ignores: what sends them would wait else."""
     print(f"--- {name}", flush=True)
     with files.folder("rim-test-") as here:
+        # Another user, as whom a test may start a program, gets to what is in it.
+        os.chmod(here, 0o711)
         changed = [f"TMPDIR={here}", *([f"RIM_TEST_PATIENCE={PATIENCE}"] if is_emulated else [])]
         ran = native.run(["env", "--default-signal=INT,HUP", *changed, sys.executable, os.path.join(TOP, "tests", name), *words])
     said = ran.out.decode(errors="replace")
