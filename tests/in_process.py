@@ -6,7 +6,7 @@
 - Answers, statuses and what is said are those of PROGRAM, by a stand-in for the library that starts PROGRAM (tests/library/standing_in.c), and by LIBRARY.
 - The stand-in is called; it is not where RIM names a program, where RIM_LIBRARY is `no`, and where it is of another version.
 - A library that is cut short, that is none, that is not there, and that others may have put there is not used; where it was named, one line says so.
-- Where none is named, scripts that are installed call the one that the system's loader finds, and those of a checkout none.
+- Where none is named, scripts that are installed call the one that the system's loader finds, on two processors or one; those of a checkout call none.
 - A signal ends a search within the time of a call, and what was tried is said.
 
 The scripts are as they are installed, in a folder with PROGRAM. Where no C compiler is, the stand-in is not asked. The last line is 'N passed, M failed'.
@@ -71,10 +71,10 @@ class Here:
         given = {"RIM": "", "RIM_LIBRARY": self.library, "FAKE_RIM": self.program, "FAKE_FOLDER": calls, "FAKE_VERSION": self.version} | more
         return {name: value for name, value in (os.environ | given).items() if value or name not in given}
 
-    def run(self, made: Folder, script: str, *words: str, **more: str) -> tuple[int, str, str, int]:
+    def run(self, made: Folder, script: str, *words: str, start: tuple[str, ...] = (), **more: str) -> tuple[int, str, str, int]:
         """The status, both outputs without the lines that say how far it is, and how many calls the stand-in got."""
         with tempfile.TemporaryDirectory() as calls:
-            ran = subprocess.run([f"{self.scripts}/{script}", *words], cwd=made.path, capture_output=True, text=True, timeout=5 * SECONDS,
+            ran = subprocess.run([*start, f"{self.scripts}/{script}", *words], cwd=made.path, capture_output=True, text=True, timeout=5 * SECONDS,
                                  check=False, stdin=subprocess.DEVNULL, env=self.environment(calls, **more))
             count = len(open(f"{calls}/calls", encoding="utf-8").readlines()) if os.path.exists(f"{calls}/calls") else 0
         said = "".join(line for line in ran.stderr.splitlines(True) if " launches tried" not in line)
@@ -176,15 +176,18 @@ def is_fifo(here: Here) -> list[str]:
 
 
 def systems(here: Here) -> list[str]:
-    """The library that the system's loader finds, where none is named: it is called if it fits, and not if it was found only because of the folder in
-    which the script is started. Nothing is said of one that is not called."""
+    """The library that the system's loader finds, where none is named: it is called on two processors if it fits, and not if it was found only because of
+    the folder in which the script is started. On more processors it is not called. Nothing is said of one that is not called."""
     made, words = value_of(here, SOME[0])
     shutil.copy(here.library, made.path)
+    here_are = sorted(os.sched_getaffinity(0))
+    asked = [(made.path, here.version, count, count < 3) for count in (1, 2, 3) if count <= len(here_are)]
+    asked += [(made.path, "0.0.1", 1, False), *((paths, here.version, 1, False) for paths in ("/none", ".", "/none:", ":/none", "/none;."))]
     wrong = []
-    for paths, version, is_called in ((made.path, here.version, True), (made.path, "0.0.1", False), ("/none", here.version, False),
-                                      *((paths, here.version, False) for paths in (".", "/none:", ":/none", "/none;."))):
-        status, _, said, calls = here.run(made, "rim-match", *words, RIM_LIBRARY="", LD_LIBRARY_PATH=paths, FAKE_VERSION=version)
-        wrong += differs(f"{paths}, {version}", (status, calls > 0, said), (0, is_called, ""))
+    for paths, version, count, is_called in asked:
+        start = ("taskset", "-c", ",".join(map(str, here_are[:count])))
+        status, _, said, calls = here.run(made, "rim-match", *words, start=start, RIM_LIBRARY="", LD_LIBRARY_PATH=paths, FAKE_VERSION=version)
+        wrong += differs(f"{paths}, {version}, {count} processors", (status, calls > 0, said), (0, is_called, ""))
     return wrong
 
 
@@ -194,7 +197,8 @@ def of_checkout(here: Here) -> list[str]:
     shutil.copy(here.library, made.path)
     with tempfile.TemporaryDirectory() as top:
         checkout = here.as_checkout(top)
-        called = [checkout.run(made, "rim-match", *words, RIM_LIBRARY=named, LD_LIBRARY_PATH=made.path) for named in ("", here.library)]
+        start = ("taskset", "-c", str(min(os.sched_getaffinity(0))))
+        called = [checkout.run(made, "rim-match", *words, start=start, RIM_LIBRARY=named, LD_LIBRARY_PATH=made.path) for named in ("", here.library)]
     return differs("what is called", [(status, calls > 0, said) for status, _, said, calls in called], [(0, False, ""), (0, True, "")])
 
 

@@ -8,7 +8,7 @@ from collections.abc import Callable, Hashable, Iterable, Iterator, Sequence
 from dataclasses import dataclass, field
 from typing import Any, NamedTuple
 
-from outside import files
+from outside import files, library
 from outside.faults import Fault
 from outside.library import Library
 from outside.rim import Rim
@@ -27,6 +27,12 @@ FAULTS = ("no-memory", "file-unreadable", "file-too-large", "output-failed", "st
 def processors() -> int:
     """How many processors there are for it, of which 64 are used."""
     return min(64, len(os.sched_getaffinity(0)))
+
+
+def library_for(rim: Rim, script: str) -> Library | None:
+    """The library that measures in the place of the program; None where the program does. A run of it is of one thread, so it is looked for only where a
+    run of the program would have one worker: by more of them the program is quicker."""
+    return library.found(rim.version, script, is_looked_for=processors() <= AT_ONCE)
 
 
 class NamedFile(NamedTuple):

@@ -11,8 +11,9 @@ from dataclasses import replace
 
 from comparer import report as kept_report
 from finder.progress import Progress
+from finder.runs import library_for
 from finder.search import Planned, Search
-from outside import ending, library, measurement
+from outside import ending, measurement
 from outside import files as outside_files
 from outside.faults import Fault, WrongWords
 from outside.measurement import Value
@@ -192,7 +193,7 @@ def match(rim: Rim, folder: str, said: Words) -> int:
     held_files.hints = hints_of(said, given, held_files)
     if said.qemu is not None:
         held_files.dumper = dumper_of(said.qemu, folder, path, launch, held_files)
-    runs = program.begun(rim, folder, held_files, library.found(rim.version, "rim-match"))
+    runs = program.begun(rim, folder, held_files, library_for(rim, "rim-match"))
     if names := as_they_are(runs, given, given.launches, wanted):
         print(said_of_others(name, names))
         return 0

@@ -1,9 +1,9 @@
 """The library librim in the place of the program: launches are measured in this process, and each of their files is read once for all runs.
 
 The Python package `rim` calls it (library/python). It is taken where it is of the program's version: only then are its answers the program's. The variable
-RIM_LIBRARY names it, and where that cannot be used, it is said once, and the program is used. Where RIM_LIBRARY is not set, scripts that are installed take
-the system's, if there is one that fits. A checkout has changed sources perhaps, with an older library in dist/ or in the system, so there it has to be
-named. A user who names a program by the variable RIM, or sets RIM_LIBRARY to `no`, gets the program.
+RIM_LIBRARY names it, and where that cannot be used, it is said once, and the program is used. Where RIM_LIBRARY is not set, scripts that are installed may
+take the system's, if there is one that fits. A checkout has changed sources perhaps, with an older library in dist/ or in the system, so there it has to
+be named. A user who names a program by the variable RIM, or sets RIM_LIBRARY to `no`, gets the program.
 """
 from __future__ import annotations
 
@@ -139,9 +139,9 @@ def imported(folder: str) -> ModuleType:
         sys.path.remove(folder)
 
 
-def is_looked_for() -> bool:
-    """Whether the system's library is taken where none is named: by scripts that are installed, unless the system's loader looks in the folder where they
-    are started."""
+def may_be_systems() -> bool:
+    """Whether the system's library may be taken where none is named: by scripts that are installed, unless the system's loader looks in the folder where
+    they are started."""
     return not is_checkout() and all(map(os.path.isabs, re.split("[:;]", os.environ.get("LD_LIBRARY_PATH") or os.sep)))
 
 
@@ -167,11 +167,11 @@ def fitting(version: str, named: str) -> Library:
 
 
 @functools.cache
-def found(version: str, script: str) -> Library | None:
-    """The library to use in the place of a program of this version; None where the program is used. Why one that is named is not used, the script
-    says, once."""
+def found(version: str, script: str, is_looked_for: bool) -> Library | None:
+    """The library to use in the place of a program of this version, which is looked for or has to be named; None where the program is used. Why one that
+    is named is not used, the script says, once."""
     named = os.environ.get(VARIABLE, "")
-    if os.environ.get(PROGRAM) or named == NONE or not (named or is_looked_for()):
+    if os.environ.get(PROGRAM) or named == NONE or not (named or is_looked_for and may_be_systems()):
         return None
     try:
         return fitting(version, named)

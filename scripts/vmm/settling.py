@@ -6,8 +6,8 @@ import sys
 from collections.abc import Mapping, Sequence
 from dataclasses import dataclass, replace
 
-from finder.runs import Runs
-from outside import ending, files, library, measurement, parameters
+from finder.runs import Runs, library_for
+from outside import ending, files, measurement, parameters
 from outside.faults import Fault, WrongWords
 from outside.measurement import Value
 from outside.rim import REPORT
@@ -196,7 +196,7 @@ class Maker:
         blobs = [launch.guest.loaded, *filter(None, [launch.initrd]), *known.values(), *stubs.values(), made.put(ZEROS, b"\0", "", "zeros")]
         contents = {blob.file: settle.content_of(files.read(os.path.join(made.path, blob.file), 1 << 30)) for blob in blobs}
         paths = tuple(blob.file for blob in blobs)
-        runs = Runs(work.rim, settle.head_of(blobs), made.path, paths=paths, library=library.found(work.rim.version, "rim-manifest"))
+        runs = Runs(work.rim, settle.head_of(blobs), made.path, paths=paths, library=library_for(work.rim, "rim-manifest"))
         return Case(self.vmm, work.table, launch, runs, given.value, given.trace, trees, stubs, contents)
 
     def drop(self):
