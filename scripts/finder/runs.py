@@ -30,9 +30,9 @@ def processors() -> int:
 
 
 def library_for(rim: Rim, script: str) -> Library | None:
-    """The library that measures in the place of the program; None where the program does. A run of it is of one thread, so it is looked for only where a
-    run of the program would have one worker: by more of them the program is quicker."""
-    return library.found(rim.version, script, is_looked_for=processors() <= AT_ONCE)
+    """The library that measures in the place of the program; None where the program does. It is looked for on two processors alone, where both are
+    as quick: on one the program is quicker, and on more, where a run of it has several workers and one of the library one thread."""
+    return library.found(rim.version, script, is_looked_for=processors() == AT_ONCE)
 
 
 class NamedFile(NamedTuple):
