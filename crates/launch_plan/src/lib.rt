@@ -7,9 +7,11 @@ mod link;
 mod plan;
 mod prefix;
 mod reading;
+mod recs;
 
 pub use filling::most_pages;
 pub use link::Link;
 pub use plan::{LaunchPlan, page_count, part_count};
 pub use prefix::{Checkpoint, Prefix, SharedPrefix};
 pub use reading::page_key;
+pub use recs::LastRecs;

@@ -13,9 +13,10 @@ ghost use Rattle.launch_plan.specs.inside.Steps.{IsReadable, item_links, rec_lin
 
 use crate::link::Link;
 use crate::plan::{LaunchPlan, page_count};
+use crate::recs::LastRecs;
 use ipa_layout::{Placed, PlacedItem, PlacedRec};
 use page_jobs::PageKey;
-use rim_desc::{Algo, HashedRec, NoMemory, RecParams, RecRule, Source, extends, rec_content};
+use rim_desc::{Algo, NoMemory, RecParams, RecRule, Source, extends};
 use rim_launch::{Config, Launch, Region, Step, realm_params};
 use rmi_list::Plan;
 use rmm_model::{size_of_level, start_level};
@@ -38,15 +39,17 @@ impl LaunchPlan {
         // A launch without steps takes no memory.
         ensures growth { OnErr result (0 < length launch.now.steps) }
     {
-        LaunchPlan::of_launch(alloc, algo, launch, placed)
+        LaunchPlan::of_launch(alloc, algo, launch, placed, &mut LastRecs::new())
     }
 
-    /// The plan of a launch that has its place and a list of commands, which is not needed.
+    /// The plan of a launch that has its place and a list of commands, which is not needed. A REC is hashed only where its contents are
+    /// not those of one of the RECs that were hashed last.
     pub fn of_launch(
         alloc: Global,
         algo: Algo,
         launch: &Launch,
         placed: &Placed,
+        last: &mut LastRecs,
     ) -> Result<LaunchPlan, NoMemory>
         requires algo { algo ≡ launch.now.config.algo }
         requires list { IsOk (listed launch.now placed.now) }
@@ -55,7 +58,7 @@ impl LaunchPlan {
         ensures growth { OnErr result (0 < length launch.now.steps) }
     {
         let mut links = Vec::new(alloc);
-        push_steps(&mut links, algo, launch, placed, launch.steps())?;
+        push_steps(&mut links, algo, launch, placed, launch.steps(), last)?;
         let pages = pages_of(links.as_slice());
         Ok(LaunchPlan::of_links(realm_params(launch), links, pages))
     }
@@ -68,6 +71,7 @@ fn push_steps(
     launch: &Launch,
     placed: &Placed,
     steps: &[Step],
+    last: &mut LastRecs,
 ) -> Result<(), NoMemory>
     requires algo { algo ≡ launch.now.config.algo }
     requires readable { All (IsReadable launch.now) steps.now }
@@ -75,21 +79,20 @@ fn push_steps(
         ≡ links.old.items ++ flat_map (step_links launch.now placed.now) steps.now) }
     ensures growth { OnErr result (0 < length steps.now) }
 {
-    let mut last = None;
     for step in steps {
-        push_step(links, algo, launch, placed, *step, &mut last)?;
+        push_step(links, algo, launch, placed, *step, last)?;
     }
     Ok(())
 }
 
-/// Adds the links of a step. The REC that was hashed last is kept.
+/// Adds the links of a step.
 fn push_step(
     links: &mut Vec<Link>,
     algo: Algo,
     launch: &Launch,
     placed: &Placed,
     step: Step,
-    last: &mut Option<HashedRec>,
+    last: &mut LastRecs,
 ) -> Result<(), NoMemory>
     requires algo { algo ≡ launch.now.config.algo }
     requires readable { IsReadable launch.now step }
@@ -204,13 +207,13 @@ pub fn page_key(algo: Algo, source: Source, item: &PlacedItem, number: u64) -> P
     }
 }
 
-/// Adds the link of a REC, if it extends the measurement. The REC that was hashed last is kept.
+/// Adds the link of a REC, if it extends the measurement.
 fn push_rec(
     links: &mut Vec<Link>,
     algo: Algo,
     rule: Option<RecRule>,
     rec: &PlacedRec,
-    last: &mut Option<HashedRec>,
+    last: &mut LastRecs,
 ) -> Result<(), NoMemory>
     ensures { OnOk result
         (links.new.items ≡ links.old.items ++ rec_links rule algo (Some rec.now)) }
@@ -218,7 +221,7 @@ fn push_rec(
     if !extends(rule, rec.runnable) {
         return Ok(());
     }
-    let content = rec_content(algo, &measured_params(rec), last);
+    let content = last.content(algo, &measured_params(rec), rec.runnable);
     links.push(Link::Rec { content })?;
     Ok(())
 }

@@ -9,7 +9,7 @@ ghost use Rattle.map_rows.specs.inside.Links.{link_extensions, links_extensions}
 use crate::numbers::sum;
 use refusal::NoMemory;
 use rim_accepted::AcceptedLaunch;
-use rim_chain::{LaunchPlan, Link};
+use rim_chain::{LastRecs, LaunchPlan, Link};
 use std::alloc::Global;
 
 /// How many parts extend a measurement, by what they are. The first part, the realm, sets it.
@@ -107,7 +107,13 @@ pub fn count_extensions(
         accepted.now.placed))) }
 {
     let launch = accepted.launch();
-    let plan = LaunchPlan::of_launch(alloc, launch.config().algo, launch, accepted.placed())?;
+    let plan = LaunchPlan::of_launch(
+        alloc,
+        launch.config().algo,
+        launch,
+        accepted.placed(),
+        &mut LastRecs::new(),
+    )?;
     counted(plan.links())
 }
 

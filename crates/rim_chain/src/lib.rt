@@ -10,7 +10,9 @@ mod under_way;
 
 pub use chaining::chain;
 pub use job::{LaunchJob, LaunchRim};
-pub use launch_plan::{Checkpoint, LaunchPlan, Link, Prefix, SharedPrefix, most_pages, page_key};
+pub use launch_plan::{
+    Checkpoint, LastRecs, LaunchPlan, Link, Prefix, SharedPrefix, most_pages, page_key,
+};
 pub use laws::{
     a_chain_goes_on_from_its_prefix, a_row_has_the_digests_of_its_pages,
     the_chain_is_what_a_monitor_holds,

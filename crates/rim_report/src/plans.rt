@@ -5,7 +5,7 @@ ghost use Rattle.rim_report.specs.Plans.{ArePlans};
 
 use refusal::NoMemory;
 use rim_accepted::{AcceptedLaunch, AcceptedRelease};
-use rim_chain::LaunchPlan;
+use rim_chain::{LastRecs, LaunchPlan};
 use std::alloc::Global;
 
 /// The plans of the launches that are accepted, in their order.
@@ -17,18 +17,23 @@ pub fn accepted_plans(
         (λ plans. ArePlans accepted.now.files accepted.now.release.launches plans.items) }
 {
     let mut plans = Vec::new(alloc);
+    let mut last = LastRecs::new();
     for outcome in accepted.outcomes() {
         if let Ok(accepted) = outcome {
-            plans.push(plan(alloc, accepted)?)?;
+            plans.push(plan(alloc, accepted, &mut last)?)?;
         }
     }
     Ok(plans)
 }
 
 /// The plan of a launch.
-fn plan(alloc: Global, accepted: &AcceptedLaunch<'_>) -> Result<LaunchPlan, NoMemory>
+fn plan(
+    alloc: Global,
+    accepted: &AcceptedLaunch<'_>,
+    last: &mut LastRecs,
+) -> Result<LaunchPlan, NoMemory>
     ensures { IfOk result (IsReadOf accepted.now.named.now.launch accepted.now.placed) }
 {
     let launch = accepted.launch();
-    LaunchPlan::of_launch(alloc, launch.config().algo, launch, accepted.placed())
+    LaunchPlan::of_launch(alloc, launch.config().algo, launch, accepted.placed(), last)
 }
