@@ -3,10 +3,15 @@ ghost use Rattle.std.specs.Prelude.{IfOk, None};
 ghost use Rattle.std.specs.List.{All};
 ghost use Rattle.rim_chain.specs.inside.Checkpoints.{HaveNoValues};
 
+use crate::under_way::fewest_together;
 use launch_plan::{Checkpoint, LaunchPlan, SharedPrefix};
 use refusal::NoMemory;
+use rim_desc::Algo;
 use std::alloc::Global;
 use std::cmp::Ordering;
+
+/// How many parts a launch may have left for each part that is saved where launches go on from a prefix. No value depends on it.
+const LEFT_A_SAVED_PART: u64 = 8;
 
 /// Neighbouring launches in the order of their plans: the first of them by its number, and how many links they have
 /// in common with the launches before them.
@@ -16,8 +21,8 @@ struct Group {
     links: usize,
 }
 
-/// For each launch the earlier one that it has most links in common with, and how many. Plans are compared with their
-/// neighbours in the order of plans alone.
+/// For each launch the earlier one that it has most links in common with, and how many; none where little would be saved. Plans are
+/// compared with their neighbours in the order of plans alone.
 pub(crate) fn shared_prefixes_of(
     alloc: Global,
     plans: &[LaunchPlan],
@@ -37,6 +42,7 @@ pub(crate) fn shared_prefixes_of(
     }
     join(&mut groups, &mut shared, 0);
     shorten(&mut shared);
+    part_short(alloc, plans, &mut shared)?;
     Ok(shared)
 }
 
@@ -108,6 +114,80 @@ fn shortened(shared: &[Option<SharedPrefix>], number: usize) -> Option<SharedPre
     }
 }
 
+/// Lets launches begin by themselves where they would save little by a prefix. Launches with RAM of different sizes, say, have the
+/// first blocks of it in common, and then each has the same kernel at a value of its own. If each waited for the one before it, they
+/// would be chained one after another; so they go side by side, where enough of them can.
+fn part_short(
+    alloc: Global,
+    plans: &[LaunchPlan],
+    shared: &mut [Option<SharedPrefix>],
+) -> Result<(), NoMemory> {
+    let prefixes = sorted(alloc, shared)?;
+    for algo in [Algo::Sha256, Algo::Sha512] {
+        if first_ones(plans, shared, &prefixes, algo) >= fewest_together(algo) {
+            part_short_by(plans, shared, &prefixes, algo);
+        }
+    }
+    Ok(())
+}
+
+/// How many launches by an algorithm go on from none, or save little where they do.
+fn first_ones(
+    plans: &[LaunchPlan],
+    shared: &[Option<SharedPrefix>],
+    prefixes: &[SharedPrefix],
+    algo: Algo,
+) -> usize {
+    let mut count = 0usize;
+    for number in 0..shared.len() {
+        if is_by(plans, number, algo)
+            && shared[number].is_none_or(|prefix| is_short(plans, prefixes, prefix, number))
+        {
+            count = count.saturating_add(1);
+        }
+    }
+    count
+}
+
+/// Lets the launches by an algorithm that save little by a prefix begin by themselves.
+fn part_short_by(
+    plans: &[LaunchPlan],
+    shared: &mut [Option<SharedPrefix>],
+    prefixes: &[SharedPrefix],
+    algo: Algo,
+) {
+    for number in 0..shared.len() {
+        if let Some(prefix) = shared[number]
+            && is_by(plans, number, algo)
+            && is_short(plans, prefixes, prefix, number)
+        {
+            shared[number] = None;
+        }
+    }
+}
+
+fn is_by(plans: &[LaunchPlan], number: usize, algo: Algo) -> bool {
+    plans.get(number).is_some_and(|plan| plan.algo() == algo)
+}
+
+/// Whether little is saved by a prefix that a launch goes on from: all that go on from it, of which `prefixes` has one each in their order,
+/// save fewer parts than an eighth of what the launch has left.
+fn is_short(
+    plans: &[LaunchPlan],
+    prefixes: &[SharedPrefix],
+    prefix: SharedPrefix,
+    number: usize,
+) -> bool {
+    let Some(plan) = plans.get(number) else {
+        return false;
+    };
+    let from = prefixes.partition_point(|other| *other < prefix);
+    let to = prefixes.partition_point(|other| *other <= prefix);
+    let followers = to.saturating_sub(from) as u64;
+    let saved = plan.parts_before(prefix.links).saturating_mul(followers);
+    saved.saturating_mul(LEFT_A_SAVED_PART) < plan.parts_after(prefix.links)
+}
+
 /// The checkpoints of each launch: where others part from it, from the first on, and none twice. None has a value.
 pub(crate) fn checkpoints_of(
     alloc: Global,
@@ -115,7 +195,8 @@ pub(crate) fn checkpoints_of(
 ) -> Result<Vec<Vec<Checkpoint>>, NoMemory>
     ensures { IfOk result (λ checkpoints. All (λ own. HaveNoValues own.items) checkpoints.items) }
 {
-    let parted = parted(alloc, shared)?;
+    let mut parted = sorted(alloc, shared)?;
+    parted.dedup();
     let mut checkpoints = Vec::with_capacity(alloc, shared.len())?;
     for number in 0..shared.len() {
         let own = own_checkpoints(alloc, &parted, number)?;
@@ -124,17 +205,16 @@ pub(crate) fn checkpoints_of(
     Ok(checkpoints)
 }
 
-/// The different shared prefixes in their order.
-fn parted(alloc: Global, shared: &[Option<SharedPrefix>]) -> Result<Vec<SharedPrefix>, NoMemory> {
-    let mut parted = Vec::with_capacity(alloc, shared.len())?;
+/// The shared prefixes in their order, each as often as launches go on from it.
+fn sorted(alloc: Global, shared: &[Option<SharedPrefix>]) -> Result<Vec<SharedPrefix>, NoMemory> {
+    let mut prefixes = Vec::with_capacity(alloc, shared.len())?;
     for shared_prefix in shared {
         if let Some(shared_prefix) = shared_prefix {
-            parted.push(*shared_prefix)?;
+            prefixes.push(*shared_prefix)?;
         }
     }
-    parted.sort_unstable();
-    parted.dedup();
-    Ok(parted)
+    prefixes.sort_unstable();
+    Ok(prefixes)
 }
 
 /// The checkpoints of a launch, by the different shared prefixes in their order.
