@@ -1,6 +1,6 @@
 #!/usr/bin/env python3
 """Measures releases by one worker and by more: more workers give the same report, take at most 1.4 times the processors' time of one, and are no
-more than there are processors.
+more than there are processors. Launches that have only little in common take no longer than those that have nothing.
 
     tests/workers.py [PROGRAM]      by default the program that `rt ci` has built
 
@@ -48,6 +48,11 @@ def tails() -> str:
     return "".join(launch(f"t{n}", [(BASE + (n << 30), 1024 * (n + 1))]) for n in range(24))
 
 
+def sizes() -> str:
+    """Launches with RAM of different sizes, and as much of it elsewhere."""
+    return "".join(launch(f"s{n}", [(BASE, 512 * (n + 1)), (BASE + (1 << 36), 32_768)]) for n in range(8))
+
+
 def recs() -> str:
     """Launches that differ in their processors alone, with an item of their own."""
     processors = "rec = [" + ", ".join(["{}"] * 200) + "]\n"
@@ -62,6 +67,7 @@ RELEASES = {
     "launches that begin alike": lambda: begun_alike(8, 3, 16_384),
     "one that begins them all": lambda: begun_alike(1, 20, 65_536),
     "different lengths": tails,
+    "RAM of different sizes": sizes,
     "launches with processors": recs,
 }
 
@@ -97,6 +103,21 @@ def same(program: str, text: str) -> list[str]:
     return more_time(program, folder) and more_time(program, folder)
 
 
+def least_time(program: str, text: str) -> float:
+    """The least processors' time of some runs by one worker, in seconds."""
+    folder = Folder({"manifest.toml": b"rim_manifest = 1\n" + text.encode()})
+    return min(run(program, folder, "1")[0] for _ in range(3))
+
+
+def little_in_common(program: str) -> list[str]:
+    """Launches whose first blocks of RAM alone are the same go side by side, as those do that have nothing in common."""
+    for _ in range(2):
+        alike, other = least_time(program, sizes()), least_time(program, apart(8, 36_352))
+        if alike <= 1.4 * other + 0.03 * PATIENCE:
+            return []
+    return [f"launches with RAM of different sizes take {alike:.2f} s, and those that share nothing {other:.2f} s"]
+
+
 # ---- threads
 
 
@@ -126,6 +147,7 @@ def threads(program: str, count: int) -> list[str]:
 def tries(program: str) -> Iterator[tuple[str, Callable[[], list[str]]]]:
     for name, made in RELEASES.items():
         yield name, lambda made=made: same(program, made())
+    yield "little in common", lambda: little_in_common(program)
     if PATIENCE == 1:
         for count in (1, 2):
             yield f"{count} processors", lambda count=count: threads(program, count)
