@@ -28,8 +28,8 @@ CALLS = {
     # `rim audit`, `rim list` and `rim trace`; `rim map`
     "accept_with_list": [ACCEPTING, "rim_audit/src/laying_out.rt", "rim_cli/src/mapping.rt"],
 }
-# A call of the command line's own `list`, which is another one.
-OTHERS = {"list": ["rim_cli/src/answer.rt"]}
+# A call of the command line's own `list`, and one of where a REC is kept, which are others.
+OTHERS = {"list": ["rim_cli/src/answer.rt"], "place": ["launch_plan/src/recs.rt"]}
 
 
 def sources() -> dict[str, str]:
