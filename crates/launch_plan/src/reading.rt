@@ -221,7 +221,7 @@ fn push_rec(
     if !extends(rule, rec.runnable) {
         return Ok(());
     }
-    let content = last.content(algo, &measured_params(rec), rec.runnable);
+    let content = last.content(algo, &measured_params(rec));
     links.push(Link::Rec { content })?;
     Ok(())
 }

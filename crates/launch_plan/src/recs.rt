@@ -5,37 +5,43 @@ ghost use Rattle.rim_desc.specs.Rec.{rec_page_of};
 
 use rim_desc::{Algo, HashedRec, Measurement, RecParams, rec_content};
 
-/// The RECs that were hashed last, of each algorithm one that may be run and one that may not. Nearly all RECs of a release have the
-/// contents of one of these, however many launches it has, since most realms enter at the same kernel.
+/// The RECs that were hashed last, of each algorithm one of each kind: it may be run or not, and begins at address 0 or at another.
+/// Nearly all RECs of a release have the contents of one of these, however many launches it has: most realms enter at the same kernel,
+/// and their other RECs are all alike.
 #[derive(Drop)]
 pub struct LastRecs {
-    kept: [Option<HashedRec>; 4],
+    kept: [Option<HashedRec>; 8],
 }
 
 impl LastRecs {
     /// No REC was hashed.
     pub fn new() -> LastRecs {
         LastRecs {
-            kept: [None, None, None, None],
+            kept: [None, None, None, None, None, None, None, None],
         }
     }
 
     /// The measurement of the page of a REC, which is hashed only where its contents are new.
-    pub(crate) fn content(&mut self, algo: Algo, params: &RecParams, runnable: bool) -> Measurement
+    pub(crate) fn content(&mut self, algo: Algo, params: &RecParams) -> Measurement
         ensures { result.bytes ≡ measurement_of algo (rec_page_of params.now) }
     {
-        rec_content(algo, params, &mut self.kept[place(algo, runnable)])
+        rec_content(algo, params, &mut self.kept[place(algo, params)])
     }
 }
 
-/// Where a REC by an algorithm is kept, which may be run or not.
-fn place(algo: Algo, runnable: bool) -> usize
-    ensures { result < 4 }
+/// Where a REC by an algorithm is kept.
+fn place(algo: Algo, params: &RecParams) -> usize
+    ensures { result < 8 }
 {
-    match (algo, runnable) {
-        (Algo::Sha256, true) => 0,
-        (Algo::Sha256, false) => 1,
-        (Algo::Sha512, true) => 2,
-        (Algo::Sha512, false) => 3,
-    }
+    let first = match algo {
+        Algo::Sha256 => 0,
+        Algo::Sha512 => 4,
+    };
+    let kind = match (params.flags(), params.pc()) {
+        (0, 0) => 0,
+        (0, _) => 1,
+        (_, 0) => 2,
+        (_, _) => 3,
+    };
+    first + kind
 }
