@@ -158,8 +158,8 @@ fn widest(plans: &[LaunchPlan], lanes: Lanes) -> usize
 }
 
 /// How many launches a worker is best lent beside one, where `most` at most are chained side by side, and this many could be given. A
-/// group takes less than twice what one of them takes alone, filled or not. So where there are more launches than workers it is
-/// done before these would be, one after another, and is the least work. Else each worker has one, which is done sooner alone.
+/// group takes about twice what one of them takes alone, filled or not. So where there are more launches than workers it is done
+/// about when these would be, one after another, and is the least work. Else each worker has one, which is done sooner alone.
 pub(crate) fn others_for(most: usize, launches: usize, workers: usize) -> usize
     requires { most ≤ MOST_LANES }
     ensures { result < MOST_LANES }

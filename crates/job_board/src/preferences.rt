@@ -84,16 +84,15 @@ impl Preferences {
 impl Preferences {
     /// A free launch that is ready and is to be chained before more pages are hashed, if one is known. A worker within a
     /// group of pages puts these first, since launches wait for what it has hashed. Where launches are lent, they wait until a group
-    /// is filled, as long as pages are left.
+    /// is filled, as long as pages are not put, also where other workers have all that are left.
     pub(crate) fn next_launch(
         &mut self,
-        core: &mut Core,
+        core: &Core,
         plans: &[LaunchPlan],
         prefixes: &SharedPrefixes,
         worker: usize,
     ) -> Option<usize>
-        ensures same { core.new ≡ core.old }
-        ensures some { IfSome result (IsOpen core.old) }
+        ensures { IfSome result (IsOpen core.now) }
     {
         if self.has_page_ahead(core, worker) {
             return None;
@@ -102,7 +101,7 @@ impl Preferences {
             return Some(number);
         }
         self.note_ready_launches(core, prefixes);
-        if self.waits_for_more(core) && core.free_page().is_some() {
+        if self.waits_for_more(core) {
             return None;
         }
         let number = self.next_open_launch(core)?;
@@ -110,7 +109,7 @@ impl Preferences {
         Some(number)
     }
 
-    /// Whether launches are best given when more of them are ready.
+    /// Whether launches are best given when more of them are ready, which they are when more pages are put.
     fn waits_for_more(&self, core: &Core) -> bool {
         let more = core.launches().saturating_sub(self.noted);
         self.lending

@@ -100,7 +100,7 @@ impl<'a, L: Run> BoardState<'a, L> {
         ensures open { IfSome result (IsOpen self.old.core) }
     {
         self.preferences
-            .next_launch(&mut self.core, self.plans, &self.prefixes, worker)
+            .next_launch(&self.core, self.plans, &self.prefixes, worker)
     }
 
     /// The free page that the worker is best given now, if any page is free.
