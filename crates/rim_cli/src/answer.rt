@@ -21,7 +21,7 @@ use crate::replaying::replay;
 use file_digests::{Digested, digested_alone, measure_with_digests};
 use refusal::NoMemory;
 use rim_check::refusals;
-use rim_files::{Fault, Opener, read_file, read_files};
+use rim_files::{Fault, Opener, read_file, read_files, read_files_at_once};
 use rim_json::json_report;
 use rim_release::{
     AcceptedRelease, Gate, Lanes, LoadedRelease, Report, StartFault, accept_all, accepted_alone,
@@ -198,7 +198,7 @@ fn measure<R: Threads + Wait + Sync, G: Gate + Sync, O: Opener>(
 {
     let text = read_file(alloc, opener, path)?;
     let release = release_in(alloc, text.as_slice())?;
-    let files = read_files(alloc, opener, &release)?;
+    let files = read_files_at_once(rt, alloc, opener, &release, of_use(rt, workers))?;
     let loaded = LoadedRelease::new(&release, &files);
     let report = report(rt, alloc, gate, path, &text, loaded, workers, format, aside);
     Ok(answer_of(report.map_err(Fault::Start)?))

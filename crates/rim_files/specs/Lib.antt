@@ -1,2 +1,3 @@
+pub mod AtOnce
 pub mod Files
 pub mod Status

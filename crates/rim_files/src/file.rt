@@ -18,7 +18,7 @@ pub trait Opener {
     // What is known of a path: that no file can be opened there, or the bytes of the file there.
     ghost held: { Self → List ℕ → Known } = { λ _ _. None };
 
-    type Reader: Read + Drop;
+    type Reader: Read + Send + Drop;
 
     /// Opens a file for reading, or answers `None`.
     fn open(&mut self, path: &str) -> Option<Self::Reader>
@@ -32,6 +32,11 @@ pub trait Opener {
         ensures { OnOk result (IfFile (held self.new path.now) (λ file. file ≡ bytes.now)) }
     {
         Err(io::Error::from(ErrorKind::Unsupported))
+    }
+
+    /// How many bytes a file has that was opened and not read, where that is known. No clause speaks of it.
+    fn size(_reader: &Self::Reader) -> Option<u64> {
+        None
     }
 
     /// Why the last file could not be opened, where that is known. No clause speaks of it.
@@ -110,7 +115,7 @@ pub fn read_or_why<O: Opener>(alloc: Global, opener: &mut O, path: &str) -> Resu
 }
 
 /// All bytes of a reader, of which one more than the limit is read at the most.
-fn read_whole<R: Read + Drop>(alloc: Global, reader: R) -> Result<Vec<u8>, Unread>
+pub(crate) fn read_whole<R: Read + Drop>(alloc: Global, reader: R) -> Result<Vec<u8>, Unread>
     ensures limit { IfOk result (λ bytes. length bytes.items ≤ FILE_LIMIT) }
     ensures fault { IfErr result (λ u. IsFileFault (option_map Some (R.remaining reader)) u.fault) }
     ensures whole { IfOk result

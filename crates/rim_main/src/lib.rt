@@ -41,6 +41,11 @@ impl Opener for FileOpener<'_> {
         save(self.rt, self.rt.alloc(), path, bytes)
     }
 
+    fn size(file: &File) -> Option<u64> {
+        let metadata = file.metadata().ok()?;
+        metadata.is_file().then_some(metadata.len())
+    }
+
     fn failure(&self) -> Option<ErrorKind> {
         self.failure
     }
