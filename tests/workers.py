@@ -1,18 +1,22 @@
 #!/usr/bin/env python3
 """Measures releases by one worker and by more: more workers give the same report, take at most 1.4 times the processors' time of one, and are no
-more than there are processors. Launches that have only little in common take no longer than those that have nothing.
+more than there are processors. Launches that have only little in common take no longer than those that have nothing, and RECs that they share are
+hashed once. Files that are read at once are those that are read one after another, and so is the fault of the first that cannot be read.
 
     tests/workers.py [PROGRAM]      by default the program that `rt ci` has built
 
 The last line is 'N passed, M failed' over the releases and the numbers of processors.
 """
 import os
+import pathlib
+import random
 import subprocess
 import sys
+import threading
 import time
 from collections.abc import Callable, Iterator
 
-from helpers import PATIENCE, SECONDS
+from helpers import MIB, PATIENCE, SECONDS
 from helpers.folders import Folder
 from helpers.tries import at_a_time, differs, program_of, told
 
@@ -118,6 +122,90 @@ def little_in_common(program: str) -> list[str]:
     return [f"launches with RAM of different sizes take {alike:.2f} s, and those that share nothing {other:.2f} s"]
 
 
+def processors_once(program: str) -> list[str]:
+    """Launches whose realms have two RECs, of contents that are the same in each launch, take little longer than those with one."""
+    def many(recs: str) -> str:
+        return "".join(f'[[launch]]\nname = "l{n}"\nalgo = "sha256"\ns2sz = 40\nrpv = "{n:0128x}"\nrec = [{recs}]\n' for n in range(1000))
+
+    for _ in range(2):
+        two, one = least_time(program, many("{ pc = 4096 }, {}")), least_time(program, many("{ pc = 4096 }"))
+        if two <= 1.4 * one + 0.03 * PATIENCE:
+            return []
+    return [f"launches with two RECs take {two:.2f} s, and those with one {one:.2f} s"]
+
+
+# ---- files that are read at once
+
+# What is at a path: a file of this many bytes, nothing, a folder, or a pipe into which nobody writes.
+Gone, Shut, Idle = "gone", "shut", "idle"
+FILES = {
+    "large and small ones": [2 * MIB, 3, 5 * MIB, MIB - 1, MIB, 0, 3 * MIB, 2 * MIB],
+    "more than there are workers": [MIB + n for n in range(12)],
+}
+# The files of a manifest, and the fault of a run on it. What is after the first that cannot be read is not waited for.
+UNREAD = {
+    "the first": ([Gone, 2 * MIB], "file-unreadable"),
+    "the last": ([2 * MIB, 3 * MIB, Gone], "file-unreadable"),
+    "after one that is too large": ([2 * MIB, 256 * MIB + 1, Idle], "file-too-large"),
+    "before one that is too large": ([2 * MIB, Gone, 256 * MIB + 1], "file-unreadable"),
+    "a folder": ([2 * MIB, Shut, Idle], "file-unreadable"),
+}
+
+
+def manifest_of(count: int) -> str:
+    """A launch for each of this many files, with that file in it."""
+    files = "".join(f'[[file]]\nname = "f{n}"\npath = "f{n}"\n' for n in range(count))
+    return files + "".join(launch(f"l{n}", [(BASE, 8192)], more=f'item = [{{ name = "i", kind = "raw", file = "f{n}", at = 0x{BASE:x} }}]\n') for n in range(count))
+
+
+def with_files(folder: Folder, each: list) -> None:
+    """Makes the files of a manifest, and the manifest."""
+    for number, what in enumerate(each):
+        path = os.path.join(folder.path, f"f{number}")
+        if what == Shut:
+            os.mkdir(path)
+        elif what == Idle:
+            os.mkfifo(path)
+        elif what != Gone and what > 8 * MIB:
+            with open(path, "wb") as file:
+                file.truncate(what)
+        elif what != Gone:
+            folder.put(f"f{number}", random.Random(number).randbytes(what))
+    folder.put("manifest.toml", b"rim_manifest = 1\n" + manifest_of(len(each)).encode())
+
+
+def read_alike(program: str, sizes_of_files: list[int], pipe: int | None = None) -> list[str]:
+    """More workers give the same report of these files, of which one may come through a pipe."""
+    with Folder() as folder:
+        with_files(folder, sizes_of_files)
+        alone = run(program, folder, "1")[1]
+        if not alone.startswith(b"rim-report 1\n") or b"refused" in alone:
+            return [f"by one worker: {alone[:200]!r}"]
+        if pipe is None:
+            return [line for workers in WORKERS for line in differs(f"by {workers}", run(program, folder, workers)[1], alone)]
+        path, data, wrong = os.path.join(folder.path, f"f{pipe}"), folder.read(f"f{pipe}"), []
+        os.remove(path)
+        os.mkfifo(path)
+        for workers in WORKERS:
+            writer = threading.Thread(target=lambda: pathlib.Path(path).write_bytes(data))
+            writer.start()
+            wrong += differs(f"by {workers}", run(program, folder, workers)[1], alone)
+            writer.join(SECONDS)
+        return wrong
+
+
+def first_unread(program: str, each: list, fault: str) -> list[str]:
+    """A run on these files ends with that fault, by any number of workers."""
+    with Folder() as folder:
+        with_files(folder, each)
+        wrong = []
+        for workers in WORKERS:
+            ran = subprocess.run([program, "measure", "--workers", workers, "manifest.toml"], cwd=folder.path, capture_output=True, text=True,
+                                 stdin=subprocess.DEVNULL, timeout=SECONDS, check=False)
+            wrong += differs(f"by {workers}", (ran.returncode, ran.stdout, ran.stderr.split("\n")[0]), (3, "", f"rim: {fault}"))
+        return wrong
+
+
 # ---- threads
 
 
@@ -148,6 +236,12 @@ def tries(program: str) -> Iterator[tuple[str, Callable[[], list[str]]]]:
     for name, made in RELEASES.items():
         yield name, lambda made=made: same(program, made())
     yield "little in common", lambda: little_in_common(program)
+    yield "RECs that launches share", lambda: processors_once(program)
+    for name, each in FILES.items():
+        yield f"files: {name}", lambda each=each: read_alike(program, each)
+    yield "files: one through a pipe", lambda: read_alike(program, [2 * MIB] * 5, pipe=2)
+    for name, (each, why) in UNREAD.items():
+        yield f"unread: {name}", lambda each=each, why=why: first_unread(program, each, why)
     if PATIENCE == 1:
         for count in (1, 2):
             yield f"{count} processors", lambda count=count: threads(program, count)
