@@ -1,5 +1,5 @@
 """How the scripts meet what is outside: files, programs, texts, signals. `rim-manifest`, `rim-match`, `rim-compare`, `rim-page`, `rim-verify`,
-`rim-endorse`, `finder` and `tools/checks/edits.py` share it.
+`rim-endorse` and `finder` share it.
 
 faults      what stops a script: wrong words, a fault
 words       the words of a command line: options, operands, and what comes after `--`

@@ -1,11 +1,12 @@
 #!/usr/bin/env python3
-"""Shows that tests refuse wrong bodies of the code of workers and files. Contracts let most of them through, since they say
-nothing of a run that does not end, of who did what, of the gate, or of memory that is refused needlessly. Not part of the gate.
+"""Shows that tests refuse wrong bodies of the code of workers and files. Contracts accept most of these bodies, because no contract covers a run that
+does not end, who did what, the gate, or memory that is refused for no reason.
 
-usage: tools/trials/wrong_workers.py [WORD]
+    tools/trials/wrong_workers.py [WORD]    tries the bodies, or those whose name contains WORD
+    tools/trials/wrong_workers.py --check   status 1 if a text that a body replaces is not in its file exactly once; the gate runs this
 
-Each body is written into a copy of the crates. The tests of the module that is named are run there without proofs, by
-`rt try --test`, and one of them has to fail. WORD picks the bodies whose name has it.
+Each body is written into a copy of the crates. `rt try --test` runs the tests of the named crate or module there, without proofs, and one of them
+must fail.
 """
 import os
 import shutil
@@ -101,7 +102,31 @@ BODIES = [
     (
         "a launch's put wakes nobody",
         "job_workers/src/board.rt",
-        [("put_launch(worker, launch);\n        if answer.is_ok() {\n", "put_launch(worker, launch);\n        if false {\n")],
+        [("        self.wake_unless(goes_on);\n        answer\n", "        let _ = goes_on;\n        answer\n")],
+        "job_workers_tests",
+    ),
+    (
+        "a launch that is put is always handed back",
+        "job_workers/src/board.rt",
+        [("        let answer = state.put_launch(worker, launch);\n", "        let answer: Result<(), ChainedLaunch<'a, L>> = Err(launch);\n")],
+        "job_workers_tests",
+    ),
+    (
+        "a launch that is put is dropped, and its worker retires",
+        "job_workers/src/board.rt",
+        [("        let answer = state.put_launch(worker, launch);\n", "        let _launch = launch;\n        let _free = state.retire(worker);\n        let answer: Result<(), ChainedLaunch<'a, L>> = Ok(());\n")],
+        "job_workers_tests",
+    ),
+    (
+        "a worker ends where a job comes later",
+        "job_workers/src/board.rt",
+        [("        self.given(rt, worker, false)\n", "        let given = self.state.lock(rt).take(worker);\n        if matches!(given, Work::Later) { Work::Done } else { given }\n")],
+        "job_workers_tests",
+    ),
+    (
+        "a worker that leaves launches for later ends where a job comes later",
+        "job_workers/src/board.rt",
+        [("        self.given(rt, worker, true)\n", "        let given = self.state.lock(rt).take_or_wait(worker);\n        if matches!(given, Work::Later) { Work::Done } else { given }\n")],
         "job_workers_tests",
     ),
     (
@@ -122,7 +147,7 @@ BODIES = [
     (
         "memory is always wanting",
         "rim_report/src/workers.rt",
-        [("    let accepted = accept_all(alloc, release, files)?;", "    if workers > 0 {\n        return Err(StartFault::NoMemory);\n    }\n    let accepted = accept_all(alloc, release, files)?;")],
+        [("    let plans = accepted_plans(alloc, accepted)?;\n", "    if workers > 0 {\n        return Err(StartFault::NoMemory);\n    }\n    let plans = accepted_plans(alloc, accepted)?;\n")],
         "rim_tests::workers",
     ),
     (
@@ -134,7 +159,7 @@ BODIES = [
     (
         "the number of workers in the words is not used",
         "rim_cli/src/answer.rt",
-        [("} => measure(rt, alloc, gate, opener, manifest, workers, format),", "} => measure(rt, alloc, gate, opener, manifest, workers.min(1), format),")],
+        [("            measure(rt, alloc, gate, opener, path, workers, format, aside)\n", "            measure(rt, alloc, gate, opener, path, workers.min(1), format, aside)\n")],
         "rim_tests::workers",
     ),
     (
@@ -142,8 +167,8 @@ BODIES = [
         "rim_cli/src/answer.rt",
         [
             (
-                "} => measure(rt, alloc, gate, opener, manifest, workers, format),",
-                "} => {\n            let _ = gate;\n            measure(rt, alloc, &mut rim_release::FreeGate, opener, manifest, workers, format)\n        }",
+                "            measure(rt, alloc, gate, opener, path, workers, format, aside)\n",
+                "            let _ = gate;\n            measure(rt, alloc, &mut rim_release::FreeGate, opener, path, workers, format, aside)\n",
             )
         ],
         "rim_tests::workers",
@@ -174,17 +199,25 @@ def keep_module(source, module):
             os.remove(os.path.join(source, name))
 
 
+def made(body):
+    """Returns the text of a body's file with its changes."""
+    what, file, changes, _ = body
+    with open(os.path.join(top, "crates", file)) as right:
+        text = right.read()
+    for old, new in changes:
+        if text.count(old) != 1:
+            raise SystemExit(f"wrong_workers.py: {what}: {file} has a replaced text {text.count(old)} times, expected once: {old.strip()}")
+        text = text.replace(old, new)
+    return text
+
+
 def refused(body, folder):
     """Whether a test fails. A test that is still running after a minute fails too."""
     what, file, changes, tests = body
     path = os.path.join(folder, "crates", file)
     with open(path) as right:
         text = right.read()
-    wrong = text
-    for old, new in changes:
-        if wrong.count(old) != 1:
-            raise SystemExit(f"{what}: {file} has one of the texts {wrong.count(old)} times")
-        wrong = wrong.replace(old, new)
+    wrong = made(body)
     with open(path, "w") as edited:
         edited.write(wrong)
     crate, _, module = tests.partition("::")
@@ -203,6 +236,10 @@ def refused(body, folder):
 
 def main():
     word = sys.argv[1] if len(sys.argv) > 1 else ""
+    if word == "--check":
+        for body in BODIES:
+            made(body)
+        return
     with tempfile.TemporaryDirectory() as folder:
         shutil.copytree(os.path.join(top, "crates"), os.path.join(folder, "crates"), ignore=shutil.ignore_patterns("out"))
         for name in ("HANDLES", "crates.txt"):
