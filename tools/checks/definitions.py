@@ -10,7 +10,7 @@ A promise of docs/PROMISES.md names definitions, as `FILE.word`. Its number is h
 has to believe for it: those that it names and all that they are made of, down to the kit's own words.
 Comments, imports and empty lines do not count, nor do types that are declared in src/.
 
-The check asks nine things:
+The check asks ten things:
 1. each number of docs/PROMISES.md is the one that is counted here, and its list for reading the headline is the one that is made here;
 2. docs/ARCHITECTURE.md names each file of specs/, but for those in specs/inside/, which hold what loops and
    fields keep;
@@ -22,7 +22,8 @@ The check asks nine things:
    only shrinks, so a file in it without such a line is a fault too;
 7. each crate but those of tests has a table in docs/PROMISES.md, or a row that says why it has none;
 8. no row is twice in docs/PROMISES.md or in docs/DEFINITIONS.md;
-9. README.md and docs/PROMISES.md name exactly the kit's crates that crates.txt has among what is trusted.
+9. README.md and docs/PROMISES.md name exactly the kit's crates that crates.txt has among what is trusted;
+10. each name with `_` or `::` and each file that stands in backquotes in README.md, docs/, bench/RESULTS.md and the comments of crates exists.
 """
 import pathlib
 import re
@@ -296,6 +297,46 @@ def wrong_trust():
         yield from (f"{name}: {crate} is said to be trusted, and not used" for crate in sorted(crates - used))
 
 
+# Files whose words are names, and those of other projects that documents speak of.
+SOURCES = ("crates/*/src/**/*.rt", "crates/*/specs/**/*.antt", "crates/*/proofs/**/*.antt", "scripts/**/*", "tests/**/*", "tools/**/*", "library/**/*", "bench/*",
+           "c/*", "examples/**/*", "docs/*.json", "crates.txt", "test", "rim", ".ci/run")
+OTHERS = {"General_Category", "rmi_smc.h", "fdt_nop_property", "fdt_nop_node", "realms/measure", "lib/pkgconfig", "src/main.rs", "a/b"}
+COMMENTS = {".rt": re.compile(r"//.*"), ".antt": re.compile(r"--.*")}
+
+
+def texts():
+    """Yields each source file with its text. Files that are not UTF-8 have no names."""
+    for path in dict.fromkeys(path for pattern in SOURCES for path in TOP.glob(pattern)):
+        if path.is_file() and not {"out", "__pycache__"} & set(path.parts):
+            yield path, path.read_text(errors="ignore")
+
+
+def exists(file, page):
+    """Whether a file that a page names exists, from the top or from a folder that the page may mean."""
+    crate = "/".join(page.relative_to(TOP).parts[:2])
+    return any(True for place in ("", "docs/", "*/", "crates/*/", f"{crate}/src/") for _ in TOP.glob(place + file.rstrip("/")))
+
+
+def missing_names():
+    """Names and files in backquotes that do not exist."""
+    known, prose = set(), {}
+    for path, text in texts():
+        comment = COMMENTS.get(path.suffix)
+        known.update(path.relative_to(TOP).parts, re.findall(r"\w+", comment.sub("", text) if comment else text))
+        if comment:
+            prose[path] = "\n".join(comment.findall(text))
+    for path in (TOP / "README.md", *sorted(TOP.glob("docs/*.md")), TOP / "bench/RESULTS.md"):
+        prose[path] = re.sub(r"^```.*?^```", "", path.read_text(), flags=re.M | re.S)
+    for path, text in prose.items():
+        for word in sorted(set(re.findall(r"`([\w.:/-]+)`", text)) - OTHERS):
+            if re.search(r"(\b|_)(NAME|MODULE|FUNCTION)(\b|_)", word):
+                continue
+            is_name = re.fullmatch(r"[A-Za-z]\w*((::|\.)\w+)*", word) and ("_" in word or "::" in word)
+            is_file = "/" in word and not re.match(r"/|\.\.|\w+:", word)
+            if is_name and not known.issuperset(re.findall(r"\w+", word)) or is_file and not exists(word, path):
+                yield f"{path.relative_to(TOP)}: `{word}` does not exist"
+
+
 def main():
     if "--wide" in sys.argv:
         print("\n".join(wide_proofs()))
@@ -314,7 +355,7 @@ def main():
         listed = (TOP / "docs/PROMISES.md").read_text().splitlines()
         wrong += [f"docs/PROMISES.md: the list for reading the headline lacks: {row}" for row in reading(known) if row not in listed]
         wrong += [*missing_constants(), *wide_lines(), *wrong_widths()]
-        wrong += [*unpromised(), *doubled_rows(), *wrong_trust()]
+        wrong += [*unpromised(), *doubled_rows(), *wrong_trust(), *missing_names()]
         used = reached(known, cited(known))
         wrong += [f"crates/{c}/specs/{p}.antt: no contract needs {name}" for c, p, name in sorted(set(known) - used)]
     print("\n".join(wrong), end="\n" if wrong else "")

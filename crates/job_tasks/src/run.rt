@@ -14,8 +14,8 @@ pub trait Run: Ledger {
     ghost plans: { List PlanView };
 }
 
-/// These two lists bind no run. A call that passes `Brand` picks its own in their place, in its proof: `measure_release` of
-/// `rim_release` picks the pages and the plans that it has just made (`ghosts-run-L-Run`).
+/// These two lists bind no run. A call that passes `Brand` picks its own in their place, in its proof: `run` of
+/// `rim_report` picks the pages and the plans that it has just made (`ghosts-run-L-Run`).
 impl Run for Brand {
     ghost pages = { [] };
 
