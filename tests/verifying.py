@@ -4,7 +4,8 @@
     tests/verifying.py [PROGRAM]          by default the program that `rt ci` has built
 
 - CBOR: the examples of RFC 8949, appendix A, in both ways; what is no CBOR; random values, which come back.
-- Tokens: made here as a CCA token is, with and without its tags, as text, of both hash algorithms; claims that are wrong.
+- Tokens: made here as a CCA token is, with and without its tags, as text, of both hash algorithms; claims that are wrong; realm claims
+  outside the realm token.
 - Hostile tokens: cut short at each byte, one bit changed at each, deep, with huge lengths: a line each, and no launch that is not there.
 - Wrong words and faults, an output that is full.
 
@@ -121,9 +122,10 @@ def claims(rim: str, algorithm: str = "sha-256", **changes) -> dict:
     return {label: value for label, value in found.items() if value is not None}
 
 
-def token(of: dict) -> bytes:
+def token(of: dict, outside: dict | None = None) -> bytes:
+    """Returns a CCA token of the claims, with the members `outside` in its outer map, which no signature covers."""
     platform = encoded(signed(encoded({265: "tag:arm.com,2023:cca_platform#1.0.0", 2396: bytes(32)})))
-    return encoded(Tag(399, {44234: platform, 44241: encoded(signed(encoded(of)))}))
+    return encoded(Tag(399, {44234: platform, 44241: encoded(signed(encoded(of)))} | (outside or {})))
 
 
 def folder(program: str) -> tuple[Folder, dict[str, str]]:
@@ -215,10 +217,21 @@ def nested(data: bytes, count: int) -> bytes:
     return data
 
 
+def mixed_tokens(of: dict, forged: dict) -> list[tuple[bytes, str]]:
+    """Returns tokens with realm claims outside the signed realm token, and the error of each."""
+    outside = "it has the claim {} ({}) outside the realm token".format
+    rim, algorithm, rpv = outside(44238, "RIM"), outside(44236, "hash algorithm"), outside(44235, "personalization value")
+    realm = encoded(signed(encoded(of)))
+    return [(token(of, forged), rim), (token(of, {44236: "sha-256"}), algorithm), (token(of, {44235: bytes(64)}), rpv),
+            (encoded({44241: realm} | forged), rim), (encoded({44234: b""} | forged), rim), (token(of | {44241: realm}), rim),
+            (encoded({44234: b""}), "it has a platform token (44234) and no realm token (44241)")]
+
+
 def faults_of_tokens(program: str) -> list[str]:
     here, values = folder(program)
     tokens = [(token(claims(values["a"], **changes)), text) for changes, text in WRONG_CLAIMS] + WRONG_TOKENS
     tokens.append((nested(encoded(claims(values["a"])), 9), "it has more than 8 parts within one another"))
+    tokens += mixed_tokens(claims("5a" * 32), claims(values["a"]))
     wrong = []
     for data, text in tokens:
         status, out, said = looked_up(here, data)

@@ -48,8 +48,18 @@ def untagged(value: object) -> object:
     return value
 
 
+def realm_token(collection: dict) -> object:
+    """Returns the realm token of a CCA token. No signature covers the collection itself, so a claim of the realm in it is an error."""
+    for label, name in ((RIM, "RIM"), (HASH, "hash algorithm"), (RPV, "personalization value")):
+        if label in collection:
+            raise Malformed(f"it has the claim {label} ({name}) outside the realm token")
+    if REALM not in collection:
+        raise Malformed(f"it has a platform token ({PLATFORM}) and no realm token ({REALM})")
+    return collection[REALM]
+
+
 def inner(value: object, parts: int = 0) -> dict:
-    """The map of the realm's claims: in the payload of a COSE_Sign1, in the part of a CCA token that is the realm's, or bare."""
+    """Returns the map of the realm's claims: the payload of a COSE_Sign1, the realm token of a CCA token, or a bare map."""
     if parts > MOST_PARTS:
         raise Malformed(f"it has more than {MOST_PARTS} parts within one another")
     value = untagged(value)
@@ -64,10 +74,10 @@ def inner(value: object, parts: int = 0) -> dict:
         return inner(value[2], parts + 1)
     if not isinstance(value, dict):
         raise Malformed("it is no map, no COSE_Sign1 and no bytes of one")
+    if PLATFORM in value or REALM in value:
+        return inner(realm_token(value), parts + 1)
     if RIM in value:
         return value
-    if REALM in value:
-        return inner(value[REALM], parts + 1)
     raise Malformed(f"it has no realm's token ({REALM}) and no RIM ({RIM})")
 
 
