@@ -147,6 +147,22 @@ def put_files() -> list[str]:
     return wrong + [said] * (not said.endswith("/a: File exists, expected a folder in which files can be made"))
 
 
+def put_file() -> list[str]:
+    """A file is put whole or not at all. What else is in its folder stays: a planted link is not followed, and a file of a likely name is kept."""
+    with tempfile.TemporaryDirectory() as here:
+        path, target, full = (os.path.join(here, name) for name in ("file", "target", "n" * 256))
+        files.write(target, b"kept")
+        os.symlink(target, f"{path}.{os.getpid()}")
+        files.put(path, b"1" * 64)
+        wrong = [f"mode {os.stat(path).st_mode:o}"] * (os.stat(path).st_mode != os.stat(target).st_mode)
+        files.put(path, b"2" * 64, 0o600)
+        wrong += [f"mode {os.stat(path).st_mode:o}"] * (os.stat(path).st_mode & 0o777 != 0o600)
+        wrong += [f"{each}: other bytes" for each, data in ((path, b"2" * 64), (target, b"kept")) if files.read(each, 64) != data]
+        said = fault_of(lambda: files.put(full, b"3", name="it"))
+        wrong += [said] * (said != "it: File name too long, expected that it can be written")
+        return wrong + [f"{os.listdir(here)}"] * (sorted(os.listdir(here)) != ["file", f"file.{os.getpid()}", "target"])
+
+
 def no_files() -> list[str]:
     """What is there and is no file is never replaced: a device that root had replaced would be gone for all."""
     wrong = []
@@ -450,7 +466,7 @@ def trees(program: str) -> list[str]:
 
 def run_all() -> int:
     program = program_of(sys.argv[1:])
-    looks = {look.__name__: look for look in (shown_texts, read_files, copied_files, put_files, no_files, read_data, run_programs, stopped, ends, versions)}
+    looks = {look.__name__: look for look in (shown_texts, read_files, copied_files, put_files, put_file, no_files, read_data, run_programs, stopped, ends, versions)}
     looks |= {look.__name__: partial(look, program) for look in (images, trees, oldest)}
     return told([(name, look()) for name, look in looks.items()])
 

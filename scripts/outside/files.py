@@ -5,6 +5,7 @@ import hashlib
 import importlib
 import json
 import os
+import secrets
 import shutil
 import stat
 import sys
@@ -97,17 +98,20 @@ def may_be_made(path: str, is_forced: bool) -> str:
 
 
 def put(path: str, data: bytes, mode: int | None = None, name: str = ""):
-    """Writes the file whole, or not at all; with a mode where one is given. `name` is what a fault calls it."""
-    meanwhile = f"{path}.{os.getpid()}"
-    try:
-        write(meanwhile, data, name or path)
-        with faults_of(name or path, "that it can be written"):
-            if mode is not None:
-                os.chmod(meanwhile, mode)
+    """Writes the file whole, or not at all; with a mode where one is given. `name` is what a fault calls it. The bytes go to a new file with
+    a random name first, so no link that is there is followed, and no other file is lost."""
+    meanwhile = os.path.join(os.path.dirname(path), f".new-{secrets.token_hex(8)}")
+    with held(), faults_of(name or path, "that it can be written"):
+        file = open(meanwhile, "xb")
+        try:
+            with file:
+                file.write(data)
+                if mode is not None:
+                    os.fchmod(file.fileno(), mode)
             os.replace(meanwhile, path)
-    finally:
-        if os.path.lexists(meanwhile):
+        except BaseException:
             os.remove(meanwhile)
+            raise
 
 
 def copy(path: str, new: str, length: int, step: int = 1 << 18):
