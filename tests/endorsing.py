@@ -139,7 +139,6 @@ def words(_program: str) -> list[str]:
     os.mkfifo(os.path.join(here.path, "fifo"))
     for given, expected, text in WRONG:
         status, out, said = here.run(*given, start=START)
-        out = "" if "--corim" in given else out     # the JSON comes before the file
         if (status, out, text in said) != (expected, "", True) or (given and said.count("\n") != 1):
             wrong.append(f"{given[:4]}: {status} {out!r} {said!r}, expected {expected} {text!r}")
     for given, text in ((["--help"], "from memory of drafts"), (["-V"], "rim-endorse 0.")):
@@ -149,10 +148,10 @@ def words(_program: str) -> list[str]:
         ran = subprocess.run([START, *WORDS, "--corim", "full", "r.json"], cwd=here.path, stdout=full, stderr=subprocess.PIPE, text=True, check=False)
     wrong += differs("a full disk", (ran.returncode, ran.stderr, os.path.exists(os.path.join(here.path, "full"))),
                      (3, "rim-endorse: output: No space left on device\n", False))
-    limited = ["/bin/sh", "-c", "ulimit -f 0; trap '' XFSZ; exec \"$0\" \"$@\" >/dev/null", START, *WORDS, "--corim", "c", "r.json"]
-    ran = subprocess.run(limited, cwd=here.path, stderr=subprocess.PIPE, text=True, check=False)
+    limited = ["/bin/sh", "-c", "ulimit -f 0; trap '' XFSZ; exec \"$0\" \"$@\"", START, *WORDS, "--corim", "c", "r.json"]
+    ran = subprocess.run(limited, cwd=here.path, capture_output=True, text=True, check=False)
     is_line = ran.stderr.startswith("rim-endorse: c: File too large")
-    return wrong + differs("a file that is full", (ran.returncode, is_line, os.path.exists(os.path.join(here.path, "c"))), (3, True, False))
+    return wrong + differs("a file that is full", (ran.returncode, ran.stdout, is_line, os.path.exists(os.path.join(here.path, "c"))), (3, "", True, False))
 
 
 def all_tries(program: str):

@@ -3,6 +3,8 @@ import os
 import re
 import sys
 import uuid
+from collections.abc import Iterator
+from contextlib import contextmanager, nullcontext
 
 from comparer import report
 from outside import ending, files
@@ -54,17 +56,21 @@ def about_of(given: dict[str, str]) -> About:
     return About(vendor, class_id_of(given["--class-id"]) if "--class-id" in given else None)
 
 
-def write_new(path: str, data: bytes):
-    """Writes a file that is not there, whole: a signal stops the script after it."""
-    with held():
-        with files.faults_of(path, "a file that is not there, and can be written"):
-            file = os.open(path, os.O_WRONLY | os.O_CREAT | os.O_EXCL | os.O_CLOEXEC, 0o666)
-        try:
-            with files.faults_of(path, "that it can be written"), open(file, "wb") as output:
-                output.write(data)
-        except Fault:
+@contextmanager
+def new_file(path: str, data: bytes) -> Iterator[None]:
+    """Writes a new file before the steps in it, and removes it if they fail: the next run would find it there."""
+    is_made = False
+    try:
+        with held(), files.faults_of(path, "a file that is not there, and can be written"):
+            file = open(path, "xb")
+            is_made = True
+        with files.faults_of(path, "that it can be written"), file:
+            file.write(data)
+        yield
+    except BaseException:
+        if is_made:
             os.unlink(path)
-            raise
+        raise
 
 
 def run(words: list[str]) -> int:
@@ -89,12 +95,10 @@ def run(words: list[str]) -> int:
     values = list(dict.fromkeys(value for _, each in reports for value in each.launches.values() if not value.refused))
     if not values:
         raise Fault("no launch has a RIM, expected one")
-    for path, name, value in refused:
-        print(f"rim-endorse: launch {quoted(name)} of {visible(path)} is refused ({value.refused}) and has no reference value", file=sys.stderr)
-    # the file comes last, so that none is left of a run whose output fails: the next run would find it there
-    print(comid.as_json(about, values), end="", flush=True)
-    if "--corim" in given:
-        write_new(given["--corim"], comid.corim(about, values))
+    with new_file(given["--corim"], comid.corim(about, values)) if "--corim" in given else nullcontext():
+        for path, name, value in refused:
+            print(f"rim-endorse: launch {quoted(name)} of {visible(path)} is refused ({value.refused}) and has no reference value", file=sys.stderr)
+        print(comid.as_json(about, values), end="", flush=True)
     return int(bool(refused))
 
 
