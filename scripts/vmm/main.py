@@ -69,13 +69,14 @@ def do(vmm: Hypervisor, what: Asked, all_words: list[str]) -> int:
         made.begin()
         work.find_programs()
         lines, record = work.write(made)
-        # the lines come first: where they cannot be written, there is no folder either
-        if "measure" not in what.said:
-            print("\n".join(lines), flush=True)
+        status, report = work.measured(made.path) if "measure" in what.said else (0, "\n".join(lines) + "\n")
+        made.may_be_written()
+        # The output comes before the folder gets its place: if printing fails, there is no folder either.
+        print(report, end="", flush=True)
         made.finish(record)
     finally:
         made.drop()
-    return work.measured() if "measure" in what.said else 0
+    return status
 
 
 def of_hypervisor(vmm: Hypervisor, all_words: list[str]) -> int:

@@ -254,19 +254,18 @@ class Work:
         lines = [f"{visible(os.path.join(self.out, name))}: {group}" for name, group in zip(manifests, groups)]
         return lines, record_of(self.vmm, list(zip(manifests, groups)), self.program_line, self.what)
 
-    def measured(self) -> int:
-        """Measures the launches, and prints the report; the status is that of `rim measure`."""
+    def measured(self, folder: str) -> tuple[int, str]:
+        """Measures the launches of a folder that is not in its place yet. Returns the status of `rim measure` and the report."""
         reports, statuses = [], []
-        for name in measure.manifests(self.out):
+        for name in measure.manifests(folder):
             said = ["--json"] if "json" in self.said else []
-            ran = programs.run([self.rim.path, "measure", "--explain", *said, name], REPORT, self.out)
+            ran = programs.run([self.rim.path, "measure", "--explain", *said, name], REPORT, folder)
             if ran.status not in (0, 1):
                 why = ran.said.strip().removeprefix("rim: ")
                 raise Fault(f"{visible(os.path.join(self.out, name))}: {why}; expected a manifest that is measured")
             reports.append(ran.out)
             statuses.append(ran.status)
-        print(measure.joined(reports, "json" in self.said).decode(), end="", flush=True)
-        return max(statuses)
+        return max(statuses), measure.joined(reports, "json" in self.said).decode()
 
 
 def option_names(vmm: Hypervisor, key: str) -> str:

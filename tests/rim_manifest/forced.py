@@ -80,8 +80,8 @@ def not_forced(_program: str):
             folder.run(*WITH_TREE)
             spoil(what, folder)
             before, names = files_of(folder), folder.names()
-            status, _, said = folder.run(*replaced(WITH_TREE, "--dtb", "with"), "-initrd", "initrd", "--force")
-            wrong += differs(what, (status, why in said, said.count("\n")), (3, True, 1)) + ([] if why in said else [said])
+            status, out, said = folder.run(*replaced(WITH_TREE, "--dtb", "with"), "-initrd", "initrd", "--force")
+            wrong += differs(what, (status, out, why in said, said.count("\n")), (3, "", True, 1)) + ([] if why in said else [said])
             wrong += differs(f"{what}: files", (files_of(folder), folder.names()), (before, names))
     return wrong
 

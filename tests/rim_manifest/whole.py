@@ -104,6 +104,10 @@ def one_step(program: str):
         ran = subprocess.run([START, *words, "-C", os.path.basename(folder.path), "--measure", *line], cwd=os.path.dirname(folder.path),
                              capture_output=True, timeout=SECONDS, check=False, text=True)
         wrong += differs("-C", (ran.returncode, ran.stdout, ran.stderr), (0, report, ""))
+        folder.put("broken", f'#!/bin/sh\n[ "$1" != measure ] || exit 3\nexec "{program}" "$@"\n'.encode(), is_program=True)
+        status, out, said = folder.run(*words, "--measure", "--out", "new", *line, RIM=os.path.join(folder.path, "broken"))
+        wrong += differs("a program that does not measure", (status, out, said.count("\n"), "new" in folder.names()), (3, "", 1, False))
+        os.remove(os.path.join(folder.path, "broken"))
         folder.put("tree", tree([(LOW, LOW + 256 * MIB)], bootargs="other"))
         status, out, said = folder.run(*words, "--measure", *line)
         return wrong + differs("a fault", (status, out, folder.names() - before), (3, "", {"out"}))
