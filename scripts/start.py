@@ -5,10 +5,16 @@
 
 It is read by older versions of Python too, so that they can say that they are; the modules are not.
 """
-import importlib
-import os
 import signal
-import sys
+
+# At SIGINT Python prints a traceback. These lines come first, so that the signal ends the script without a word. Before this file's first
+# line Python itself starts, and an interrupt in that time still prints one.
+if signal.getsignal(signal.SIGINT) is signal.default_int_handler:
+    signal.signal(signal.SIGINT, signal.SIG_DFL)
+
+import importlib  # noqa: E402, the lines above come first
+import os  # noqa: E402
+import sys  # noqa: E402
 
 # The folders of each script's modules, with a module that is in each. What starts it is `main` of the first.
 SCRIPTS = {
@@ -58,9 +64,6 @@ def start():
     here, name = script_at(os.path.abspath(__file__))
     if sys.version_info[:2] < (3, 9):
         refuse(name, "Python %d.%d runs it (%s), expected Python 3.9 or later" % (sys.version_info[0], sys.version_info[1], sys.executable))
-    # Until the modules are there, Python's own way to be interrupted is a page of lines.
-    if signal.getsignal(signal.SIGINT) is signal.default_int_handler:
-        signal.signal(signal.SIGINT, signal.SIG_DFL)
     folder = modules_of(here, name)
     sys.path.insert(0, folder)
     # Python keeps what it compiles beside the modules, but not where they are installed: nobody would take it away.

@@ -302,6 +302,35 @@ def stopped() -> list[str]:
     return wrong
 
 
+# Runs a script, and sends it INT before it executes the first line with a text.
+INTERRUPTED = """
+import linecache, os, runpy, signal, sys
+path, text = sys.argv[1:]
+def traced(frame, event, _):
+    if frame.f_code.co_filename != path:
+        return None
+    if event == "line" and linecache.getline(path, frame.f_lineno).strip().startswith(text):
+        os.kill(os.getpid(), signal.SIGINT)
+    return traced
+sys.argv = [path, "--help"]
+sys.settrace(traced)
+runpy.run_path(path, run_name="__main__")
+"""
+# A line of start.py that is executed early, and later ones.
+STARTING = ("import importlib", "SCRIPTS = {", "found = None", "needed = SCRIPTS", "folder = modules_of", "return importlib")
+
+
+def starting() -> list[str]:
+    """INT ends a script that starts, and nothing is printed."""
+    wrong = []
+    for text in STARTING:
+        words = [sys.executable, "-c", INTERRUPTED, os.path.join(TOP, "rim-verify"), text]
+        ran = subprocess.run(words, capture_output=True, text=True, check=False)
+        came = ran.returncode, ran.stdout, ran.stderr
+        wrong += [f"{text}: {came}"] * (came != (-signal.SIGINT, "", ""))
+    return wrong
+
+
 ENDS = [
     ("print('a' * 9)\nreturn 0", "/dev/full", 3, "name: output: No space left on device\n"),
     ("print('a' * 99999)\nreturn 0", "/dev/full", 3, "name: output: No space left on device\n"),
@@ -466,7 +495,7 @@ def trees(program: str) -> list[str]:
 
 def run_all() -> int:
     program = program_of(sys.argv[1:])
-    looks = {look.__name__: look for look in (shown_texts, read_files, copied_files, put_files, put_file, no_files, read_data, run_programs, stopped, ends, versions)}
+    looks = {look.__name__: look for look in (shown_texts, read_files, copied_files, put_files, put_file, no_files, read_data, run_programs, stopped, starting, ends, versions)}
     looks |= {look.__name__: partial(look, program) for look in (images, trees, oldest)}
     return told([(name, look()) for name, look in looks.items()])
 
