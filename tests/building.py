@@ -5,6 +5,7 @@
 
 - What is written, with which modes, and what its checksums are of. `./rim` starts a program of it. A second build has the same bytes.
 - Which sources are those of the programs, and which those of the library. Files of dist/ that are changed, or gone; other packages, another kit.
+- `./rim`: links, files that cannot be read or are gone, an empty PATH.
 - Signals while it proves, compiles, links and strips, full disks: dist/ is as it was, no folder for temporary files is left, and nothing that was
   started goes on.
 
@@ -329,6 +330,38 @@ def refused() -> list[str]:
         return wrong + differs("dist/", made.has(), before)
 
 
+# ---- ./rim
+
+
+def started(made: Tree, **environment: str) -> tuple[int, str]:
+    """Starts ./rim. Returns its status and the first line of standard error."""
+    ran = subprocess.run([made.root / "rim"], env=made.environment | environment, capture_output=True, text=True, check=False)
+    return ran.returncode, "".join(ran.stderr.splitlines()[:1])
+
+
+def not_started() -> list[str]:
+    """./rim says why it does not start a program of dist/: a source that is a link counts, and one that cannot be read was not removed."""
+    with tree() as made:
+        made.write("kit/bin/rt", "#!/bin/sh\nexit 1\n", 0o755)
+        building = ": proving and building the program"
+        source = made.root / "crates/rim_main/src/lib.rt"
+        link = source.with_name("new.rt")
+        link.symlink_to("lib.rt")
+        wrong, was = [], "rim: since dist/SOURCE was written, crates/rim_main/src/"
+        changes = [("a link", lambda: None, f"{was}new.rt was added"), ("no link", link.unlink, ""),
+                   ("an unreadable file", lambda: (source.unlink(), source.symlink_to("/proc/self/mem")),
+                    "rim: crates/rim_main/src/lib.rt: Input/output error"),
+                   ("an unreadable link", lambda: link.symlink_to("/proc/self/mem"), "rim: crates/rim_main/src/lib.rt: Input/output error"),
+                   ("no file", source.unlink, "rim: crates/rim_main/src/new.rt: Input/output error"),
+                   ("no file and no link", link.unlink, f"{was}lib.rt was removed")]
+        for name, change, why in changes:
+            change()
+            status, line = started(made)
+            wrong += differs(name, (status, line[:line.find(building)]), (70, why) if why else (0, ""))
+        no_path = "rim: uname is not found; set PATH to the folders of the system's programs, such as /usr/bin:/bin"
+        return wrong + differs("an empty PATH", started(made, PATH=""), (70, no_path))
+
+
 # ---- stops
 
 
@@ -398,7 +431,7 @@ def full() -> list[str]:
 
 
 def run_all() -> list[Outcome]:
-    looks = [(look.__name__, look) for look in (written, packages, without_proving, of_which_sources, other_files, compared, refused, full)]
+    looks = [(look.__name__, look) for look in (written, packages, without_proving, of_which_sources, other_files, compared, refused, not_started, full)]
     return at_a_time(looks + [(f"stops, {number.name}", functools.partial(stops, number)) for number in (signal.SIGINT, signal.SIGTERM, signal.SIGHUP)])
 
 
