@@ -147,7 +147,9 @@ def object_of(option: str, text: str) -> dict:
 
 def machine_texts(option: str, text: str) -> list[str]:
     """The words of a -machine, its kind first where it has one. A `_` in a key is a `-` to QEMU."""
-    words = flat(object_of(option, text)) if text.startswith("{") else parts(text)
+    if text.startswith("{"):
+        raise WrongWords(f"{option}: {shown(text)}: QEMU takes no JSON here, expected virt and its words")
+    words = parts(text)
     if words and "=" not in words[0]:
         words[0] = "type=" + words[0]
     return [key.replace("_", "-") + equals + value for key, equals, value in (word.partition("=") for word in words)]

@@ -284,6 +284,8 @@ FAULTS = [
 LINE_STOPS = [
     ("unknown words are named at once", "qemu", HAND + " -new 1 --other -S disk.img", 2,
      '"-new 1", "--other", "disk.img": no words of QEMU\'s that are known, so what they change is not known, expected no such words'),
+    ("a machine as JSON", "qemu", HAND.replace("virt,gic-version=3", """'{"type":"virt","gic-version":"3"}'"""), 2,
+     '-machine: "{\\"type\\":\\"virt\\",\\"gic-version\\":\\"3\\"}": QEMU takes no JSON here, expected virt and its words'),
     ("unknown words of -machine", "qemu", HAND + " -M new=1,other=2", 2, '-machine: "new=1", "other=2": what they change is not known'),
     ("very many unknown words", "qemu", HAND + " -x" * 5000, 2, '"-x": no word of QEMU\'s'),
     ("firmware of cloud-hypervisor", "cloud-hypervisor", "cloud-hypervisor --kernel Image --firmware F", 2, "--firmware F: firmware is another layout, which no table"),
