@@ -32,7 +32,9 @@ from helpers.guests import START, replaced
 from helpers.tries import differs, program_of, told, tried
 
 from finder.axes import Axis, best_first, count_of
-from outside import parameters
+from outside import measurement, parameters
+from outside.faults import WrongWords
+from outside.measurement import Value
 from vmm.hypervisors import HYPERVISORS
 from vmm.layout import rows_with_ways
 from vmm.rows import ADDS, NUMBERS
@@ -354,7 +356,7 @@ def forms(program: str):
         rim = value_of(program, folder)
         data = bytes.fromhex(rim)
         trace = subprocess.run([program, "trace", "machine.toml", "a"], cwd=folder.path, capture_output=True, check=True).stdout
-        for name, data_ in (("bytes", data), ("cbor", b"\x19\xac\xce\x58\x20" + data), ("text", base64.b64encode(data) + b"\n"), ("trace", trace)):
+        for name, data_ in (("bytes", data), ("cbor", b"\x19\xac\xce\x58\x20" + data), ("text", rim.encode()), ("trace", trace)):
             folder.put(name, data_)
         folder.put("line", " ".join(QEMU).encode())
         folder.put("guests.toml", f'[[guest]]\nline = "line"\ndtb = "tree"\nrim = "{rim}"\n'.encode())
@@ -370,6 +372,25 @@ def forms(program: str):
         wrong += differs("another row", (status, "ram: first\n" in out, "each" in out), (1, True, False))
         status, out, said = folder.run("settle", "qemu", "--host", "known.toml", "--guests", "guests.toml", "--out", "alone.toml")
         return wrong + differs("a file of guests alone", status, 0)
+
+
+def values_of_files(_program: str):
+    """A file with a value: text with or without line feeds, also of the length of raw bytes; raw bytes, also with those of a claim in CBOR first."""
+    wrong = []
+    short, long = bytes(range(0x80, 0xA0)), bytes(range(0x80, 0xC0))
+    for data in (short, long, b"\x58\x20" + short[2:], b"\x58\x40" + long[2:], b"\x19\xac\xce" + short[3:]):
+        value = Value("sha256" if len(data) == 32 else "sha512", data.hex())
+        base64_lines, claim = base64.encodebytes(data), bytes((0x58, len(data))) + data
+        for name, file in (("bytes", data), ("digits", data.hex().encode()), ("digits and a line feed", data.hex().encode() + b"\n"),
+                           ("capitals", b"0x" + data.hex().upper().encode()), ("base64", base64.b64encode(data)), ("base64 in lines", base64_lines),
+                           ("claim", claim), ("label and claim", b"\x19\xac\xce" + claim)):
+            wrong += differs(f"{name} of {data.hex()[:8]}", measurement.of_file(file, "f"), value)
+    for file, text in ((short[1:], "f: 31 bytes, expected 32 or 64 bytes"), (b"ab" * 20, "has 30 bytes"), (b"no value", "has 5 bytes"), (b"", "f: 0 bytes")):
+        try:
+            wrong.append(f"{file!r}: {measurement.of_file(file, 'f')}")
+        except WrongWords as why:
+            wrong += differs(f"{file!r}", text in str(why), True)
+    return wrong
 
 
 ALONE = [word if word not in ("2", "1153M") else {"2": "1", "1153M": "1024M"}[word] for word in QEMU]
@@ -520,7 +541,7 @@ def main():
     if said.machines:
         return machines(program, said.machines, said.seed, said.limit, [Kind[each.upper()] for each in said.kinds.split(",")])
     outcomes = [(each.__name__, tried(each, program)) for each in (
-        best_first_is_right, the_file, forms, narrowed, terminal, stopped, none_found, wrong_words, rows, few)]
+        best_first_is_right, the_file, values_of_files, forms, narrowed, terminal, stopped, none_found, wrong_words, rows, few)]
     return told(outcomes)
 
 

@@ -11,6 +11,8 @@ from outside.texts import shown
 LENGTHS = {"sha256": 32, "sha512": 64}
 # What CBOR has before the bytes of the claim cca-realm-initial-measurement: its label, and how many bytes follow.
 CLAIM_HEADS = (b"\x19\xac\xce", b"\x58\x20", b"\x58\x40")
+# What hexadecimal digits and base64 consist of.
+TEXT = re.compile(rb"[0-9A-Za-z+/_=-]+")
 EXPECTED = "expected 32 or 64 bytes, as hexadecimal digits or in base64"
 
 
@@ -55,12 +57,14 @@ def of_bytes(data: bytes, name: str) -> Value:
 
 
 def of_file(data: bytes, name: str) -> Value:
-    """The measurement of a file: a text as above, the bytes of the claim, or all of the claim as CBOR has it."""
-    for head in CLAIM_HEADS:
-        data = data.removeprefix(head)
-    if len(data) in (32, 64):
-        return of_bytes(data, name)
-    try:
-        return read(data.decode("ascii"), name)
-    except UnicodeDecodeError:
-        raise WrongWords(f"{name}: {len(data)} bytes, {EXPECTED}, or the claim as CBOR has it") from None
+    """Returns the measurement in a file: a text as above, the bytes of the claim, or the whole claim as CBOR has it. Text comes first, since 64
+    hexadecimal digits are as many bytes as a SHA-512 digest."""
+    text = b"".join(data.split())
+    if TEXT.fullmatch(text):
+        return read(text.decode(), name)
+    claim = data
+    for head in CLAIM_HEADS if len(data) not in (32, 64) else ():
+        claim = claim.removeprefix(head)
+    if len(claim) not in (32, 64):
+        raise WrongWords(f"{name}: {len(data)} bytes, {EXPECTED}, or the claim as CBOR has it")
+    return of_bytes(claim, name)
