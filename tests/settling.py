@@ -223,12 +223,12 @@ def settle(folder: Folder, machine: Machine, *words: str):
 def is_told(machine: Machine, has: dict, said: str) -> list[str]:
     """How a settled file differs from what the machine does, where the value pins it."""
     rows = rows_with_ways([HYPERVISORS[machine.vmm].TABLE])
-    unsettled = set(re.findall(r"^not settled: (\w+) = ", said, re.M))
+    unsettled = {each.partition("=")[0] for each in has["not_settled"]}
     realm = has.get("realm", {})
-    wrong = []
+    wrong = differs("what is said to be open", set(re.findall(r"^not settled: (\w+) = ", said, re.M)) - unsettled, set())
     for name, way in machine.ways.items():
-        if name not in unsettled and name not in NUMBERS and name != "s2sz":
-            wrong += differs(name, str(realm.get(name, rows[name].names[0])), way)
+        if name in rows and name not in unsettled and name not in NUMBERS and name != "s2sz":
+            wrong += differs(name, str(realm.get(name)), way)
     for key, flag in FLAG_OF.items():
         if not flag or machine.numbers[flag]:
             wrong += differs(key, has.get(key, 0) + ADDS[realm.get(key, "as_read")], machine.values[key])
@@ -317,8 +317,19 @@ def likeliest(vmm="qemu", **ways: str) -> Machine:
     return Machine(vmm, ways, plain + (ways["s2sz"] == "one_more") if plain else 48, dict(LIKELY))
 
 
+def unlikely(folder: Folder, name: str) -> dict[str, str]:
+    """Returns the rows of a file about a host of QEMU that are not at their likeliest alternative."""
+    rows = rows_with_ways([HYPERVISORS["qemu"].TABLE, HYPERVISORS["qemu"].FIRMWARE])
+    return {row: way for row, way in folder.toml(name)["realm"].items() if str(way) != rows[row].names[0]}
+
+
 KNOWN = {key: value for key, value in LIKELY.items() if LIKELY.get(FLAG_OF.get(key), True)}
 EXPECTED = "".join(f"{key} = {str(value).lower()}\n" for key, value in KNOWN.items())
+
+
+# The rows that the value of the guest pins, also those that are at their likeliest alternative.
+SETTLED = {"ram": "first", "stub": "measured", "order": "address", "s2sz": "one_more", "kernel_pages": "file", "dtb_pages": "whole", "hash": "sha512",
+           "host_pages": "4k", "rec_rule": "all", "num_bps": "as_read", "num_wps": "as_read", "pmu_num_ctrs": "as_read"}
 
 
 def the_file(program: str):
@@ -337,15 +348,19 @@ def the_file(program: str):
                   if line not in out]
         text = folder.read("settled.toml").decode()
         wrong += [line for line in (EXPECTED, 'rec_rule = "all"\n', 'settled_by = "rim-manifest settle: sha512 ') if line not in text]
-        wrong += differs("its rows", folder.toml("settled.toml")["realm"], {"stub": "measured", "rec_rule": "all"})
+        has = folder.toml("settled.toml")
+        wrong += differs("its rows", has["realm"], SETTLED)
+        wrong += differs("what is open", has["not_settled"], ["block_level=1", "dtb_file=padded", "firmware_ram=whole"])
+        wrong += differs("what no guest has", "\nnot settled: dtb_file, firmware_ram: no guest has these rows\n" in out, True)
         wrong += differs("again", settle(folder, machine, "--rim", rim, "--out", "settled.toml")[::2][0], 3)
         status, report, _ = folder.run("qemu", "--host", "settled.toml", "--dtb", "tree", "--measure", "--", *QEMU)
         wrong += differs("the file is taken", (status, report.splitlines()[1].split(" ")[1:]), (0, ["sha512", rim]))
         folder.put("known.toml", folder.read("settled.toml") + b'firmware_ram = "whole"\n')
         status, out, _ = settle(folder, machine, "--rim", rim, "--out", "settled.toml", "--force")
         wrong += differs("what is named comes first", (status, "after 1 launch:" in out), (0, True))
-        return wrong + differs("what it says of other guests stays", folder.toml("settled.toml")["realm"], {
-            "stub": "measured", "rec_rule": "all", "firmware_ram": "whole"})
+        has = folder.toml("settled.toml")
+        wrong += differs("what it says of other guests stays", has["realm"], SETTLED | {"firmware_ram": "whole"})
+        return wrong + differs("what is open still", has["not_settled"], ["block_level=1", "dtb_file=padded", "firmware_ram=file"])
 
 
 def forms(program: str):
@@ -367,7 +382,7 @@ def forms(program: str):
             status, out, said = settle(folder, machine, *words, "--out", f"{name}.toml")
             wrong += differs(name, status, 0) + ([out + said] if status else [])
             if not status:
-                wrong += differs(name, folder.toml(f"{name}.toml")["realm"], {"ram": "each", "hash": "sha256", "num_wps": "one_more"})
+                wrong += differs(name, unlikely(folder, f"{name}.toml"), {"ram": "each", "hash": "sha256", "num_wps": "one_more"})
         status, out, said = settle(folder, machine, "--rim", rim, "--row", "ram=first", "--limit", "200", "--out", "n.toml")
         wrong += differs("another row", (status, "ram: first\n" in out, "each" in out), (1, True, False))
         status, out, said = folder.run("settle", "qemu", "--host", "known.toml", "--guests", "guests.toml", "--out", "alone.toml")
@@ -421,9 +436,20 @@ def narrowed(program: str):
                 ("firmware", ["--dtb", "firm", "--rim", values["firm"]], firmware, {"firmware_ram": "whole"}),
                 ("-dtb", ["--rim", values["own"]], own, {"stub": "measured", "rec_rule": "all", "dtb_file": "padded"})):
             status, out, said = folder.run("settle", "qemu", "--host", "known.toml", "--out", f"{name}.toml", *words, "--", *line)
-            wrong += differs(name, (status, folder.toml(f"{name}.toml")["realm"]) if not status else out + said, (0, expected))
+            wrong += differs(name, (status, unlikely(folder, f"{name}.toml")) if not status else out + said, (0, expected))
             wrong += differs(f"{name}: what is open", "not settled: rec_rule = runnable: all gives the same" in out,
                              name in ("one guest", "firmware"))
+        for host, row, words, line, *expected in (
+                ("one guest", [], ["--dtb", "tree"], QEMU, ("rec_rule", "1153M-smp2-Image-initrd-sha512", "all")),
+                ("one guest", ["--row", "rec_rule=runnable"], ["--dtb", "tree"], QEMU),
+                ("one guest", [], ["--dtb", "one"], ALONE), ("two guests", [], ["--dtb", "tree"], QEMU),
+                ("two guests", [], ["--dtb", "firm"], firmware, ("firmware_ram", "1G-smp1-fw-sha512", "whole")),
+                ("two guests", [], [], own, ("dtb_file", "1153M-smp2-Image-initrd-sha512", "padded")),
+                ("firmware", [], ["--dtb", "firm"], firmware)):
+            status, _, said = folder.run("qemu", "--host", f"{host}.toml", *row, *words, "--measure", "--", *line)
+            lines = [f"rim-manifest: warning: {host}.toml: row {row_} is not settled, and launch {launch} has another measurement with {others}: "
+                     f"settle it with such a guest, or choose with --row {row_}=.." for row_, launch, others in expected]
+            wrong += differs(f"{host}, {line}", (status, [each for each in said.splitlines() if "settle" in each]), (0, lines))
     return wrong
 
 

@@ -18,8 +18,10 @@ NUMBERS = {**dict.fromkeys(parameters.KEYS, (0, parameters.MOST)), "block_level"
 FLAGS = parameters.FLAGS
 RULES = ("runnable", "all")
 TEXTS = ("rpv", "rec_rule", "hypervisor_version", "settled_by")
-# The table that names the alternative of each row that is not the likeliest, and the longest text of `settled_by`.
+# The table that names alternatives of rows, and the longest text of `settled_by`.
 REALM, MOST_SETTLED_BY = "realm", 1000
+# The key with the alternatives, as ROW=ALTERNATIVE, that `settle` has not excluded beside those that are taken.
+NOT_SETTLED = "not_settled"
 # What the example has in the place of a number that only the machine knows.
 UNSAID = "?"
 MOST = 64 << 10
@@ -41,6 +43,7 @@ class Host:
     values: dict[str, int | str]
     notes: dict[str, str] = field(default_factory=dict)     # where a value comes from that the file does not have
     realm: dict[str, str] = field(default_factory=dict)     # the alternatives of rows, by their names
+    not_settled: dict[str, list[str]] = field(default_factory=dict)     # the other alternatives that rows may have, by their names
 
     def __getitem__(self, key: str) -> int | str | None:
         return self.values.get(key)
@@ -65,6 +68,7 @@ def read(path: str, rows: dict[str, Row], is_settled: bool = True) -> Host:
     values: dict[str, int | str] = {}
     table = files.toml_of(path, files.read(path, MOST, "the file of --host"), "the file of --host")
     realm = realm_of(path, table.pop(REALM, {}), rows)
+    not_settled = not_settled_of(path, table.pop(NOT_SETTLED, []), rows)
     unsaid = [key for key, value in table.items() if value == UNSAID]
     if not is_settled:
         table = {key: value for key, value in table.items() if key not in unsaid or key not in (*NUMBERS, *FLAGS)}
@@ -78,7 +82,7 @@ def read(path: str, rows: dict[str, Row], is_settled: bool = True) -> Host:
             values[key] = value
     for key in set(realm) & set(values) & {"block_level", "rec_rule"}:
         raise Fault(f"{visible(path)}: {key}: it is given twice, once in [{REALM}], expected it there alone")
-    host = Host(path, values, realm=realm)
+    host = Host(path, values, realm=realm, not_settled=not_settled)
     for key in parameters.ASKED if is_settled else ():
         host.require(key, "since it is measured")
     for flag, key in parameters.FLAGGED:
@@ -101,6 +105,20 @@ def realm_of(path: str, table: object, rows: dict[str, Row]) -> dict[str, str]:
         if not isinstance(text, str) or not is_way(rows[name], text):
             raise Fault(f"{visible(path)}: [{REALM}]: {name} = {value_shown(value)}, expected {rows[name].expected}")
         found[name] = text
+    return found
+
+
+def not_settled_of(path: str, entries: object, rows: dict[str, Row]) -> dict[str, list[str]]:
+    """The alternatives that the key `not_settled` has, by the names of their rows."""
+    if not isinstance(entries, list):
+        raise Fault(f"{visible(path)}: {NOT_SETTLED} = {value_shown(entries)}, expected an array of texts ROW=ALTERNATIVE")
+    found: dict[str, list[str]] = {}
+    for entry in entries:
+        name, _, way = entry.partition("=") if isinstance(entry, str) else ("", "", "")
+        if name not in rows or not rows[name].way(way):
+            expected = f"{name}={' or '.join(rows[name].names)}" if name in rows else f"ROW=ALTERNATIVE, of one of {', '.join(rows)}"
+            raise Fault(f"{visible(path)}: {NOT_SETTLED}: {value_shown(entry)}, expected {expected}")
+        found.setdefault(name, []).append(way)
     return found
 
 
@@ -138,4 +156,4 @@ def wrong(key: str, value: object) -> str | None:
     if key == "hypervisor_version":
         is_version = isinstance(value, str) and re.fullmatch(r"[0-9]{1,6}(\.[0-9]{1,6})*([.+~_-][0-9A-Za-z.+~_-]{0,64})?", value)
         return None if is_version else "a version such as 10.0.2"
-    return "one of " + ", ".join([*NUMBERS, *FLAGS, *TEXTS, f"[{REALM}]"])
+    return "one of " + ", ".join([*NUMBERS, *FLAGS, *TEXTS, NOT_SETTLED, f"[{REALM}]"])

@@ -120,36 +120,30 @@ class Body:
 
 
 @dataclass
-class Case:
-    """A guest, and the measurement that a machine gave for it."""
+class Alternatives:
+    """A launch with the files that the alternatives of its rows need: devicetrees by the alternatives of `dtb_file` and `dtb_pages`, stubs by
+    their bytes, and contents by the names of files."""
 
     vmm: Hypervisor
     table: list[Row]
     launch: Launch
-    runs: Runs
-    value: Value
-    trace: list[str]                            # the measurement after each step, where that is given
-    trees: dict[tuple[str, str], Blob]          # devicetrees, by the alternatives of `dtb_file` and `dtb_pages`
+    trees: dict[tuple[str, str], Blob]
     stubs: dict[bytes, Blob]
     contents: dict[str, Content]
-    choices: Choices | None = None
-    widths: dict[str, int] = field(default_factory=dict)
-    bodies: dict[tuple[Structure, int], Body] = field(default_factory=dict)
-    numbers_of_bodies: dict[tuple, int] = field(default_factory=dict)
+    widths: dict[str, int] = field(default_factory=dict, init=False)
 
     def places(self, taken: Mapping[str, str]) -> layout.Places:
         return layout.places(self.table, replace(self.launch.guest, ways=taken))
 
-    def names_of(self, row: str) -> list[str]:
-        """The alternatives of a row."""
-        return next(each.names for each in self.table if each.name == row)
+    def row(self, name: str) -> Row:
+        return next(each for each in self.table if each.name == name)
 
     def width(self, name: str) -> int:
         if name not in self.widths:
             self.widths[name] = int(name) if name.isdigit() else self.places({"s2sz": name}).s2sz
         return self.widths[name]
 
-    def realm(self, taken: dict[str, str]) -> Realm:
+    def realm(self, taken: Mapping[str, str]) -> Realm:
         places = self.places(taken)
         tree = self.trees.get((taken.get("dtb_file", "given"), taken["dtb_pages"]))
         if tree is None:
@@ -157,6 +151,18 @@ class Case:
         stub = self.stubs[places.stub_bytes] if places.stub is not None else None
         counted: dict[str, int | bool | str] = {"block_level": int(taken["block_level"]), "rec_rule": taken["rec_rule"]}
         return of_parts(self.vmm, Parts(self.launch.guest, places, tree, stub), counted, taken)
+
+
+@dataclass
+class Case(Alternatives):
+    """A guest, and the measurement that a machine gave for it."""
+
+    runs: Runs
+    value: Value
+    trace: list[str]                            # the measurement after each step, where that is given
+    choices: Choices | None = None
+    bodies: dict[tuple[Structure, int], Body] = field(default_factory=dict)
+    numbers_of_bodies: dict[tuple, int] = field(default_factory=dict)
 
     def body(self, taken: dict[str, str], structure: Structure, level: int) -> Body:
         """What is measured of a combination of rows after the parameters."""
@@ -327,24 +333,28 @@ def settled_of(cases: Sequence[Case], choices: Choices, at: At, algo: str | None
             ways[about.key], values[about.key] = feature.number.way, feature.number.read
         if about.flag:
             values[about.flag] = feature.has
-    widths = [case.width_of(width) for case in cases]
-    found = open_of(cases, choices, taken, widths)
-    if same := [name for name in cases[0].names_of("s2sz") if name != ways["s2sz"] and [case.width(name) for case in cases] == widths]:
-        found["s2sz"] = same
-    return Settled(ways, values, found)
+    structure_ways = taken | {"s2sz": ways["s2sz"]}
+    return Settled(ways, values, open_of(cases, [*choices.rows, cases[0].row("s2sz")], structure_ways))
 
 
-def open_of(cases: Sequence[Case], choices: Choices, taken: dict[str, str], widths: Sequence[int]) -> dict[str, list[str]]:
+def open_of(cases: Sequence[Alternatives], rows: Sequence[Row], taken: Mapping[str, str]) -> dict[str, list[str]]:
     """The rows whose other alternatives give the same, each by itself; and the alternatives."""
-    def key(ways: dict[str, str]) -> tuple | None:
+    def key(ways: Mapping[str, str]) -> tuple | None:
         try:
-            return tuple(body_of(case.realm(ways), case.contents, level_at(int(ways["block_level"]), width)) for case, width in zip(cases, widths))
+            widths = [case.width(ways["s2sz"]) for case in cases]
+            return tuple((width, body_of(case.realm(ways), case.contents, level_at(int(ways["block_level"]), width))) for case, width in zip(cases, widths))
         except Fault:
             return None
 
     has = key(taken)
-    found = {row.name: [name for name in row.names if name != taken[row.name] and key(taken | {row.name: name}) == has] for row in choices.rows}
+    found = {row.name: [name for name in row.names if name != taken[row.name] and key({**taken, row.name: name}) == has] for row in rows}
     return {name: some for name, some in found.items() if some}
+
+
+def differing(guest: Alternatives, row: Row, names: Sequence[str], taken: Mapping[str, str]) -> list[str]:
+    """Returns those of some alternatives of a row that may change the measurement of a launch."""
+    same = [] if row.name in APART - {"s2sz"} else [taken[row.name], *open_of([guest], [row], taken).get(row.name, [])]
+    return [name for name in names if name not in same]
 
 
 def tried_lines(search_at: Choices, reached: list[set[int]]) -> list[str]:

@@ -21,6 +21,7 @@ from .hypervisor import Hypervisor
 from .hypervisors import HYPERVISORS
 from .manifest import text, value_text
 from .realm import ZEROS
+from .rows import NUMBERS
 from .settle import Case, Outcome, Settled
 from .words import Option
 from .work import Work, go_to, rows_of, tree_blob
@@ -197,7 +198,7 @@ class Maker:
         contents = {blob.file: settle.content_of(files.read(os.path.join(made.path, blob.file), 1 << 30)) for blob in blobs}
         paths = tuple(blob.file for blob in blobs)
         runs = Runs(work.rim, settle.head_of(blobs), made.path, paths=paths, library=library_for(work.rim, "rim-manifest"))
-        return Case(self.vmm, work.table, launch, runs, given.value, given.trace, trees, stubs, contents)
+        return Case(self.vmm, work.table, launch, trees, stubs, contents, runs, given.value, given.trace)
 
     def drop(self):
         for each in self.folders:
@@ -235,12 +236,13 @@ def values_of(about: Host, settled: Settled) -> dict[str, int | str]:
 
 
 def realm_lines(rows: Mapping[str, layout.Row], settled: Settled, values: dict[str, int | str]) -> list[str]:
-    """The lines of [realm]: each row that is not at its likeliest alternative."""
+    """The lines of [realm]: each row that is settled, and each that is not at its likeliest alternative."""
     lines = []
     for name, way in settled.ways.items():
         if name == "s2sz" and way.isdigit() and ("host" in rows[name].names or int(way) > int(values.get("s2sz_max", way))):
             values["s2sz_max"] = int(way)
-        if way != rows[name].names[0] and not (name == "s2sz" and "host" in rows[name].names):
+        is_taken = name not in settled.open_rows or way != rows[name].names[0]
+        if is_taken and not (name == "s2sz" and "host" in rows[name].names):
             lines.append(f"{name} = {way if way.isdigit() else text(way)}")
     return lines
 
@@ -250,11 +252,20 @@ def kept_lines(about: Host, settled: Settled) -> list[str]:
     return [f"{name} = {way if way.isdigit() else text(way)}" for name, way in about.realm.items() if name not in settled.ways]
 
 
+def untried(about: Host, rows: Mapping[str, layout.Row], settled: Settled) -> dict[str, list[str]]:
+    """The rows that no guest has and that the file of --host has not settled either, with their other alternatives."""
+    before = set(about.realm) - set(about.not_settled) if about["settled_by"] else set()
+    names = [name for name in rows if len(rows[name].ways) > 1 and name not in (*settled.ways, *NUMBERS, *before)]
+    return {name: [way for way in rows[name].names if way != about.realm.get(name, rows[name].names[0])] for name in names}
+
+
 def file_text(about: Host, rows: Mapping[str, layout.Row], settled: Settled, by: str) -> str:
     values = values_of(about, settled)
     realm = realm_lines(rows, settled, values) + kept_lines(about, settled)
     lines = ["# What holds on a machine: a file of `rim-manifest --host`, which `rim-manifest settle` has written."]
-    lines += [f"{key} = {value_text(value)}" for key, value in values.items()] + [f"settled_by = {text(by)}", ""]
+    lines += [f"{key} = {value_text(value)}" for key, value in values.items()] + [f"settled_by = {text(by)}"]
+    left = settled.open_rows | untried(about, rows, settled)
+    lines += [f"{host.NOT_SETTLED} = [{', '.join(text(f'{name}={way}') for name, some in left.items() for way in some)}]", ""]
     lines += [f"# Not settled: {line}" for line in open_lines(rows, settled)]
     return "\n".join([*lines, "[realm]", *realm]) + "\n"
 
@@ -351,11 +362,15 @@ def search(maker: Maker, given: Sequence[Given], cases: list[Case], rows: Mappin
         return 1
     by = (f"rim-manifest settle: {cases[0].value.algo} {cases[0].value.digits[:DIGITS]}.. of {cases[0].launch.name}"
           + f" and {len(cases) - 1} more" * (len(cases) > 1))
-    made = file_text(host.read(given[0].said["host"], rows, False), rows, outcome.settled, by)
+    about = host.read(given[0].said["host"], rows, False)
+    made = file_text(about, rows, outcome.settled, by)
     path = os.path.join(maker.scratch, "host.toml")
     files.write(path, made.encode())
     verify(maker, given, cases, path)
-    print("\n".join(found_lines(outcome, outcome.settled, rows, cases)), flush=True)
+    lines = found_lines(outcome, outcome.settled, rows, cases)
+    if names := untried(about, rows, outcome.settled):
+        lines.append(f"not settled: {', '.join(names)}: no guest has {'this row' if len(names) == 1 else 'these rows'}")
+    print("\n".join(lines), flush=True)
     files.put(out, made.encode())
     return 0
 

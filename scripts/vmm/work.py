@@ -5,19 +5,22 @@ import hashlib
 import os
 import shutil
 from collections.abc import Callable
+from dataclasses import replace
 
 from outside import ending, files, library, parameters, programs
 from outside.faults import Fault, WrongWords
 from outside.rim import REPORT, Rim, started
 from outside.texts import shown, visible
 
-from . import asked, checks, dumps, host, image, launches, layout, manifest, measure, names, realm, sorting, ways, words
+from . import asked, checks, dumps, host, image, launches, layout, manifest, measure, names, realm, settle, sorting, ways, words
 from .asked import Asked
 from .folder import Folder
 from .guest import PAGE, Blob, up
 from .hypervisor import Hypervisor
 from .launches import Launch
 from .layout import Row
+from .measured import Content
+from .settle import Alternatives
 from .ways import Chosen
 
 
@@ -221,6 +224,32 @@ class Work:
             if any(item.file == realm.ZEROS for item in launch.realm.items):
                 launch.zeros = zeros = zeros or made.put(realm.ZEROS, b"\0", "", "a zero: the pages of a host's page before a blob")
 
+    def alternatives(self, launch: Launch, dump: dumps.Dump) -> Alternatives:
+        """A launch by the alternatives of its rows. Its files are as long as they would be, and none is written."""
+        assert launch.tree is not None
+        name = self.chosen["dtb_file"].name if dump.is_own else "given"
+        lengths = {"whole": dump.length, "used": up(dump.tree.used, PAGE)}
+        trees = {(name, pages): replace(launch.tree, length=length) for pages, length in lengths.items() if len(dump.packed) <= length}
+        data = layout.places(self.table, replace(launch.guest, ways={"stub": "measured"})).stub_bytes
+        stub = launch.stub or Blob("stub", "", "", len(data), "", "", "")
+        contents = {each.file: Content(each.file, each.length) for each in (*launch.files, stub)}
+        contents |= {launch.tree.file: Content(launch.tree.file, len(dump.packed)), realm.ZEROS: Content(realm.ZEROS, 0)}
+        return Alternatives(self.vmm, self.table, launch, trees, {data: stub}, contents)
+
+    def unsettled(self, found: list[Launch], trees: dict[str, dumps.Dump]) -> list[str]:
+        """A warning for each row that the host's file has not settled, if its other alternatives change a launch."""
+        taken, lines = self.taken(), []
+        names = {name: each.name for name, each in taken.items()}
+        for name, others in self.host.not_settled.items():
+            if name not in taken or taken[name].is_of_option:
+                continue
+            for launch in found:
+                if some := settle.differing(self.alternatives(launch, trees[launch.name]), taken[name].row, others, names):
+                    lines.append(f"{self.host.name}: row {name} is not settled, and launch {launch.name} has another measurement with "
+                                 f"{' or '.join(some)}: settle it with such a guest, or choose with --row {name}=..")
+                    break
+        return lines
+
     def made_by(self) -> str:
         if "program" in self.said:
             seeds = self.vmm.FACTS.no_seeds
@@ -239,7 +268,7 @@ class Work:
             checked(self.vmm, found, trees, self.host, "program" not in self.said)
         self.place_files(made, found, trees)
         different = {(each.packed, each.length): each.tree for each in trees.values()}
-        warnings = [*checks.warnings(list(different.values())), *checks.of_console(found)]
+        warnings = [*checks.warnings(list(different.values())), *checks.of_console(found), *self.unsettled(found, trees)]
         line = self.what.line.words if self.what.line and not self.what.line.program else []
         about = manifest.About(self.vmm, self.words, line, self.host, self.taken(), self.algo_from, self.table, self.made_by(), warnings,
                                ["-dtb", self.said["own_dtb"]] if "own_dtb" in self.said else [])

@@ -214,5 +214,5 @@ def texts(program: str):
             keys = set(re.findall(r"^#?([a-z0-9_]+) = ", file.read(), re.M))
         wrong += differs("keys of the example", "one of " + ", ".join(sorted(keys)), "one of " + ", ".join(sorted(
             [*parameters.ALL, "s2sz_max", "hypervisor_version", "num_aux", "rpv", "pool_base",
-             "pool_count", "settled_by"])))
+             "pool_count", "settled_by", "not_settled"])))
     return wrong
