@@ -52,10 +52,11 @@ def stopped(number: int, _frame: object):
 
 
 def program() -> str:
-    named = os.environ.get("RIM") or "rim"
-    found = shutil.which(named)
+    named = os.environ.get("RIM")
+    found = shutil.which(named or "rim")
     if not found:
-        stop(f"no program {named!r} is found, expected it in the PATH or its path in the variable RIM")
+        why = f"RIM is {named!r}, which is no program that can be started" if named else "rim is not in PATH"
+        stop(f"{why}; start this script with RIM=path/to/rim, or add the folder of rim to PATH")
     return os.path.abspath(found)
 
 

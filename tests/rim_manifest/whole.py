@@ -6,6 +6,7 @@ import os
 import re
 import shutil
 import subprocess
+import sys
 
 from helpers import MIB, SCRIPTS, SECONDS
 from helpers.files import image, tree
@@ -53,8 +54,12 @@ def measured(program: str):
     with Folder() as folder:
         folder.run(*WITH_TREE)
         measure = os.path.join(folder.path, "out", "measure")
-        status, _, said = folder.run(start=measure, RIM="./none")
-        wrong = differs("no program", (status, "no program './none' is found" in said), (3, True))
+        os.mkdir(os.path.join(folder.path, "bin"))
+        os.symlink(sys.executable, os.path.join(folder.path, "bin", "python3"))
+        todo = "; start this script with RIM=path/to/rim, or add the folder of rim to PATH\n"
+        wrong = differs("no program", folder.run(start=measure, RIM="", PATH=os.path.join(folder.path, "bin")), (3, "", "measure: rim is not in PATH" + todo))
+        wrong += differs("no such program", folder.run(start=measure, RIM="./none"),
+                         (3, "", "measure: RIM is './none', which is no program that can be started" + todo))
         text = folder.read("out/manifest.toml").decode()
         folder.put("out/manifest.toml", text.replace("at = 0x48000000", "at = 0x40200000").encode())
         status, out, _ = folder.run(start=measure, RIM=program)
