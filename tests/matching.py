@@ -815,9 +815,19 @@ def traces(program: str) -> list[str]:
     launch_of(table, "stub")["num_bps"] = 7
     here.put("changed.toml", whole(table).encode())
     parameters = trace_of(program, here, "changed.toml", "stub")
+    table = base_table("plain")
+    launch_of(table, "plain")["rpv"] = "ab" * 64
+    here.put("changed.toml", whole(table).encode())
+    own_rpv = trace_of(program, here, "changed.toml", "plain")
     count = len(plain.splitlines())
+    not_measured = "line 1 differs in rpv\nrpv is not measured: the RIM after this line is the same"
     wrong = []
     for name, data, given, status, parts in (
+            ("a personalization value", own_rpv, ["m.toml"], 1, [f"{not_measured}, and so is the last RIM\nplain: "]),
+            ("a personalization value and no RIMs", re.sub("(?m)^[0-9a-f]* ", "", own_rpv), ["m.toml"], 1, [f"{not_measured}\nplain: "]),
+            ("a personalization value and a REC", own_rpv.splitlines(True)[0] + "".join(changed.splitlines(True)[1:]), ["m.toml", "plain"], 1,
+             [f"{not_measured}\nplain: "]),
+            ("a personalization value and another RIM", "0" * 64 + own_rpv[64:], ["m.toml", "plain"], 1, ["line 1 differs in rpv\nplain: "]),
             ("the same", stub, ["m.toml"], 0, [f'launch "stub": all {len(stub.splitlines())} lines are those of there\n']),
             ("a REC", changed, ["m.toml"], 1, [
                 f'launch "plain": the first {count - 1} of its {count} lines are those of there, which has {count}\n',

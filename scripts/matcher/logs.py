@@ -21,6 +21,8 @@ WORDS = {
     "data_create": ("ipa", "measured", "contents"),
     "rec_create": ("flags", "mpidr", "pc", *(f"x{number}" for number in range(8))),
 }
+# Those of them that are not measured: the personalization value, and the number of a processor.
+UNMEASURED = {"rpv", "mpidr"}
 Step = tuple[Optional[str], ...]
 # A monitor's own log, as TF-RMM is remembered to print it: `SMC_RMI_` and the command, its arguments as hexadecimal digits, `>` and what came.
 MONITOR = "SMC_RMI_"

@@ -12,7 +12,7 @@ from outside.texts import plain, visible
 
 from . import explain
 from .explain import Content, Known
-from .logs import WORDS, Log, Step, same, text
+from .logs import UNMEASURED, WORDS, Log, Step, same, text
 
 
 @dataclass(frozen=True)
@@ -115,8 +115,18 @@ def said_of(found: Found, near: Near, path: str, log: Log) -> list[str]:
     if min(len(here), len(there)) == count:
         return [*lines, f"{word} {count + 1}: {'the launch' if count == len(here) else path} has none"] + [
             f"{where}: {plain(text(steps[count]))}" for where, steps in ((near.name, here), (path, there)) if count < len(steps)] + lacks
-    names = ", ".join(differing(here[count], there[count], log))
-    return [*lines, f"{word} {count + 1} differs in {names}", f"{near.name}: {text(here[count])}", f"{path}: {plain(text(there[count]))}", *lacks]
+    names = differing(here[count], there[count], log)
+    return [*lines, f"{word} {count + 1} differs in {', '.join(names)}", *unmeasured(names, here[count:], there[count:], log, word),
+            f"{near.name}: {text(here[count])}", f"{path}: {plain(text(there[count]))}", *lacks]
+
+
+def unmeasured(names: Sequence[str], here: Sequence[Step], there: Sequence[Step], log: Log, word: str) -> list[str]:
+    """Says that the RIM is the same if the first of two sequences of steps differ only in words that are not measured."""
+    if set(names) - UNMEASURED or (log.rims and here[0][0] != there[0][0]):
+        return []
+    is_last = log.rims and here[-1][0] == there[-1][0]
+    return [f"{' and '.join(names)} {'is' if len(names) == 1 else 'are'} not measured: the RIM after this {word} is the same"
+            + ", and so is the last RIM" * is_last]
 
 
 def explained(rim: Rim, folder: str, manifest: str, found: Found, log: Log, contents: list[Content]) -> list[str]:
