@@ -10,7 +10,7 @@ use job_core::WORKER_LIMIT;
 use std::alloc::{AllocError, Global};
 
 /// The version, and the day of its sources' last commit: `tools/package/dist.py` asks that they are the same.
-pub const VERSION: &str = "0.2.0 (2026-11-30)";
+pub const VERSION: &str = "0.2.0 (2026-12-01)";
 
 /// A subcommand: its name, what help says of it, and its arguments, the operands in their order.
 struct Subcommand {
