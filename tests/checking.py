@@ -5,7 +5,7 @@
 
 - Lists of faults: at most 200 lines and how many more there are, none of what is past a limit, one line for one cause.
 - Large manifests: a check takes at most twice the time and the memory of `rim measure`, which looks for the lowest fault alone.
-- One devicetree of many launches: what it says is found once, and not at all where no warning is asked for.
+- One devicetree of many launches: what it says is found once, also where each launch edits it, and not at all where no warning is asked for.
 - Terminals: JSON has no character that nobody sees, and means the same. After a fault, the line that a check has of it, the file that it is
   about or the nearest name of a launch; after those that a check prints, the line with the first. Nothing where standard error is no terminal. The line of progress, of measurements and of audits, leaves
   the cursor on a line of its own, and is removed.
@@ -108,14 +108,27 @@ def large(program: str, files: dict[str, bytes], *words: str) -> list[str]:
     return wrong
 
 
-def many_ranges() -> dict[str, bytes]:
-    """A devicetree of 1.9 MB whose memory node has 120,000 ranges, which 1,024 launches share."""
+def many_ranges(count: int, edit: str = "") -> dict[str, bytes]:
+    """Returns a devicetree of 1.9 MB whose memory node has 120,000 ranges, and a manifest of `count` launches that share it. Each launch
+    edits it as `edit` says, where `%d` is the launch's number."""
     reg = b"".join(struct.pack(">QQ", i * 37 % 120_000 << 13, 1 << 12) for i in range(120_000))
     two = struct.pack(">I", 2)
     tree = Writer().whole({"#address-cells": two, "#size-cells": two, "memory@0": {"reg": reg}}, None)
-    item = "ram = [[0x40000000, 0x50000000]]\nitem = [{name = 'd', kind = 'dtb', file = 'd', at = 0x40000000}]\n"
-    launches = [f"[[launch]]\nname = 'a{i}'\nalgo = 'sha256'\ns2sz = 40\nrec = [{{}}]\n{item}" for i in range(1024)]
+    item = "ram = [[0x40000000, 0x50000000]]\nitem = [{name = 'd', kind = 'dtb', file = 'd', at = 0x40000000%s}]\n"
+    edits = [edit.replace("%d", str(i)) for i in range(count)]
+    launches = [f"[[launch]]\nname = 'a{i}'\nalgo = 'sha256'\ns2sz = 40\nrec = [{{}}]\n{item % edits[i]}" for i in range(count)]
     return {"d": tree, "m.toml": manifest("[[file]]\nname = 'd'\npath = 'd'\n", *launches)}
+
+
+def edited(program: str) -> list[str]:
+    """Launches that edit one devicetree share what is found in it: the warnings at most double the time of the check."""
+    folder = Folder(many_ranges(128, ", bootargs = 'root=%d'"))
+    for _ in range(3):
+        time, _ = taken(program, ("check", "--quiet"), folder)
+        own_time, _ = taken(program, ("check",), folder)
+        if own_time <= 2 * time + 0.05 * PATIENCE:
+            return []
+    return [f"check takes {own_time:.2f} s, and without warnings {time:.2f}"]
 
 
 LARGE = [
@@ -253,8 +266,9 @@ def all_tries(program: str):
         yield look.__name__, lambda look=look: look(program)
     for name, text in LARGE:
         yield name, lambda text=text: large(program, {"m.toml": text()})
-    yield "one devicetree of 1,024 launches", lambda: large(program, many_ranges())
-    yield "the same without warnings", lambda: large(program, many_ranges(), "--quiet")
+    yield "one devicetree of 1,024 launches", lambda: large(program, many_ranges(1024))
+    yield "the same without warnings", lambda: large(program, many_ranges(1024), "--quiet")
+    yield "one devicetree that 128 launches edit", lambda: edited(program)
     for name, words, text, shown in ADVICE:
         yield name, lambda words=words, text=text, shown=shown: advice(program, words, text, shown)
 

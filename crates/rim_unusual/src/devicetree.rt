@@ -4,12 +4,11 @@ use crate::firmware::firmware_region;
 use crate::items::{number_of, placed_bytes};
 use crate::memory::ram_ranges;
 use crate::ranges::{Difference, first_difference, merged};
-use crate::seen::{SeenTree, SeenTrees, TreeFacts, look_at};
+use crate::seen::{SeenTree, SeenTrees, TreeFacts, TreeForm};
 use crate::unusual::Unusual;
 use fdt_tree::FdtFault;
 use refusal::NoMemory;
 use rim_accepted::AcceptedLaunch;
-use rim_desc::Source;
 use rim_launch::{Launch, Role};
 use rim_show::devicetree_kind;
 use shown_text::{Joint, Quoted, Remark};
@@ -119,7 +118,7 @@ fn because(remark: &mut Remark, why: &str) -> fmt::Result {
     remark.help.write_str(why)
 }
 
-/// Adds what is rarely meant of the devicetree of a launch, if it has one. Of a file it is found once.
+/// Adds what is rarely meant of the devicetree of a launch, if it has one.
 pub(crate) fn find_in_tree<'a>(
     alloc: Global,
     found: &mut Vec<Unusual<'a>>,
@@ -129,25 +128,27 @@ pub(crate) fn find_in_tree<'a>(
     let Some(number) = number_of(accepted.launch(), Role::Dtb) else {
         return Ok(());
     };
+    let Some(form) = form_of(accepted.launch(), number) else {
+        return Ok(());
+    };
     let item = accepted.named().item_name(number);
-    let bytes = placed_bytes(accepted, number);
-    match accepted
-        .placed()
-        .items()
-        .get(number)
-        .and_then(|item| item.source)
-    {
-        Some(Source::File(file)) => {
-            push_faults(
-                alloc,
-                found,
-                item,
-                accepted,
-                seen.of_file(alloc, file, bytes)?,
-            )
-        }
-        _ => push_faults(alloc, found, item, accepted, &look_at(alloc, bytes)?),
-    }
+    let tree = seen.of_form(alloc, form, placed_bytes(accepted, number))?;
+    push_faults(alloc, found, item, accepted, tree)
+}
+
+/// The form of the devicetree that is the item of this number.
+fn form_of(launch: &Launch, number: usize) -> Option<TreeForm> {
+    let kind = &launch.items().get(number)?.kind;
+    Some(TreeForm {
+        file: kind.file()?,
+        is_edited: kind.has_edits(),
+        has_initrd: kind.needs_initrd(),
+        memory: launch
+            .ram()
+            .first()
+            .copied()
+            .filter(|_| kind.needs_memory()),
+    })
 }
 
 /// Adds what is rarely meant of a devicetree that was looked at.
@@ -178,7 +179,7 @@ fn push_facts<'a>(
 ) -> Result<(), NoMemory> {
     let compared = [
         memory_fault(alloc, accepted, facts)?,
-        initrd_fault(accepted, facts.initrd),
+        facts.initrd.and_then(|found| initrd_fault(accepted, found)),
         processors_fault(accepted.launch(), facts.processors),
     ];
     for what in compared.iter().flatten().chain(facts.own.iter()) {

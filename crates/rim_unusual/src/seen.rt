@@ -1,4 +1,4 @@
-//! What devicetrees say, found once a file.
+//! What devicetrees say, found once for all launches whose devicetrees have the same form.
 use crate::cells::value_in;
 use crate::chosen::{InitrdPlace, SEEDS};
 use crate::devicetree::TreeFault;
@@ -8,7 +8,7 @@ use crate::ranges::merged;
 use fdt_tree::{FdtFault, Node, Tree};
 use ipa_layout::IpaRange;
 use refusal::NoMemory;
-use rim_launch::REGION_LIMIT;
+use rim_launch::{REGION_LIMIT, Region};
 use std::alloc::Global;
 
 /// From how many bytes on those that a devicetree does not use are said: 64 KiB.
@@ -34,15 +34,28 @@ pub(crate) struct TreeFacts {
     /// The addresses of its memory nodes, in rising order and joined where they touch: one range more than a launch may have at most, so
     /// that each difference is seen. `None` where they cannot be read.
     pub memory: Option<Vec<IpaRange>>,
-    pub initrd: InitrdPlace,
+    /// `None` where an edit writes the initrd's addresses: they are then those of the launch.
+    pub initrd: Option<InitrdPlace>,
     pub processors: usize,
     pub own: Vec<TreeFault>,
 }
 
-/// The devicetrees of files that were looked at, each with its file's number. Launches that have the same file share them.
+/// The file of a devicetree, and how it is edited. Two devicetrees of the same form differ only in the command line and in the
+/// initrd's addresses that an edit writes, and `TreeFacts` has neither.
+#[derive(Clone, Copy, PartialEq, Eq)]
+pub(crate) struct TreeForm {
+    pub file: usize,
+    pub is_edited: bool,
+    /// Whether an edit writes the initrd's addresses.
+    pub has_initrd: bool,
+    /// The region that an edit writes into the memory node.
+    pub memory: Option<Region>,
+}
+
+/// The devicetrees that were looked at. Launches whose devicetrees have the same form share them.
 #[derive(Drop)]
 pub struct SeenTrees {
-    trees: Vec<(usize, SeenTree)>,
+    trees: Vec<(TreeForm, SeenTree)>,
 }
 
 impl SeenTrees {
@@ -53,17 +66,18 @@ impl SeenTrees {
         }
     }
 
-    /// The devicetree of the file of this number, which has these bytes.
-    pub(crate) fn of_file(
+    /// Returns what a devicetree of this form says. `bytes` are the bytes that are placed; they are read only where no earlier
+    /// devicetree had the form.
+    pub(crate) fn of_form(
         &mut self,
         alloc: Global,
-        file: usize,
+        form: TreeForm,
         bytes: &[u8],
     ) -> Result<&SeenTree, NoMemory> {
-        let at = match self.trees.iter().position(|(seen, _)| *seen == file) {
+        let at = match self.trees.iter().position(|(seen, _)| *seen == form) {
             Some(at) => at,
             None => {
-                self.trees.push((file, look_at(alloc, bytes)?))?;
+                self.trees.push((form, look_at(alloc, form, bytes)?))?;
                 self.trees.len() - 1
             }
         };
@@ -71,21 +85,30 @@ impl SeenTrees {
     }
 }
 
-/// Looks at a devicetree, of which these are all bytes.
-pub(crate) fn look_at(alloc: Global, bytes: &[u8]) -> Result<SeenTree, NoMemory> {
+/// Looks at a devicetree of this form, of which these are all bytes.
+fn look_at(alloc: Global, form: TreeForm, bytes: &[u8]) -> Result<SeenTree, NoMemory> {
     match fdt_tree::read(alloc, bytes) {
-        Ok(tree) => Ok(SeenTree::Read(facts_of(alloc, &tree, bytes.len())?)),
+        Ok(tree) => Ok(SeenTree::Read(facts_of(alloc, form, &tree, bytes.len())?)),
         Err(fault) => Ok(SeenTree::Unreadable(fault.own_fault()?)),
     }
 }
 
-/// What a devicetree says whose file has this many bytes.
-fn facts_of(alloc: Global, tree: &Tree, size: usize) -> Result<TreeFacts, NoMemory> {
+/// What a devicetree says that has this many bytes.
+fn facts_of(
+    alloc: Global,
+    form: TreeForm,
+    tree: &Tree,
+    size: usize,
+) -> Result<TreeFacts, NoMemory> {
     Ok(TreeFacts {
         memory: front_of_memory(alloc, tree)?,
-        initrd: InitrdPlace::found(tree),
+        initrd: if form.has_initrd {
+            None
+        } else {
+            Some(InitrdPlace::found(tree))
+        },
         processors: processors(tree),
-        own: own_faults(alloc, tree, size)?,
+        own: own_faults(alloc, form, tree, size)?,
     })
 }
 
@@ -100,9 +123,17 @@ fn front_of_memory(alloc: Global, tree: &Tree) -> Result<Option<Vec<IpaRange>>, 
 }
 
 /// What is rarely meant of a devicetree in whichever launch it is.
-fn own_faults(alloc: Global, tree: &Tree, size: usize) -> Result<Vec<TreeFault>, NoMemory> {
+fn own_faults(
+    alloc: Global,
+    form: TreeForm,
+    tree: &Tree,
+    size: usize,
+) -> Result<Vec<TreeFault>, NoMemory> {
     let mut own = Vec::new(alloc);
-    if let Some(slack) = slack_fault(alloc, tree, size)? {
+    // An edit writes no unused bytes.
+    if !form.is_edited
+        && let Some(slack) = slack_fault(alloc, tree, size)?
+    {
         own.push(slack)?;
     }
     for seed in SEEDS.iter().filter(|seed| seed.is_in(tree)) {
