@@ -128,6 +128,13 @@ def ordinary():
     return manifest(files, launches), files
 
 
+def unknown():
+    """Returns a launch with 2 GiB of content that the monitor does not know. It has no file."""
+    size = 2 << 30
+    content = f'name = "u"\nkind = "unknown"\nat = {RAM}\nsize = {size}\n'
+    return manifest([], [launch(0, [content], size)]), {}
+
+
 # What makes a manifest and its files, and how much memory runs may take, in MB; None for all.
 INPUTS = {
     "1,024 devicetrees of 2 MiB, edited": (lambda: trees(MOST), [None]),
@@ -139,6 +146,7 @@ INPUTS = {
     "1,024 launches that differ in the last REC": (last_recs, [None]),
     "300 launches over a kernel of 16 MiB": (lambda: small(LARGER_KERNEL), [None, 48, 64, 72]),
     "32 launches over 67 MB, half by SHA-512": (ordinary, [None]),
+    "2 GiB of unknown content": (unknown, [None]),
 }
 
 

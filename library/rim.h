@@ -118,7 +118,8 @@ typedef enum rim_algorithm { RIM_SHA256 = 0, RIM_SHA512 = 1 } rim_algorithm;
    needed, in any order; of files of one path the first counts, and others are not read. A file at the manifest's own path is the manifest. */
 rim_code rim_measure(const rim_file *manifest, const rim_file *files, size_t count, rim_format format, void *out, size_t room, size_t *length);
 
-/* The report that the monitor's own commands lead to, launch by launch, as `rim audit` prints it. */
+/* The report that the monitor's own commands lead to, launch by launch, as `rim audit` prints it. Its time grows with the number of commands, which
+   are given to the monitor one by one: two for each page of an item, also where the contents are unknown and rim_measure hashes nothing. */
 rim_code rim_audit(const rim_file *manifest, const rim_file *files, size_t count, void *out, size_t room, size_t *length);
 
 /* What is wrong with the manifest, its files and its launches, as `rim check` prints it: RIM_OK where nothing is, RIM_REFUSED where a launch is refused,
