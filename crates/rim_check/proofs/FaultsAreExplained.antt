@@ -5,7 +5,7 @@ use Rattle.toml.specs.Data.{Members}
 use Rattle.rim_manifest.specs.declared.fault.ManifestFault.{ManifestFault}
 use Rattle.rim_manifest.specs.declared.fault.ManifestFault.TheVariants.{Syntax}
 use Rattle.rim_manifest.specs.declared.finding.Finding.{Finding}
-use Rattle.rim_manifest.specs.Faults.{lower, lowest}
+use Rattle.rim_manifest.specs.Faults.{IsSubsequence, lower, lowest}
 use Rattle.rim_manifest.specs.Found.{AreFound}
 use Rattle.rim_manifest.specs.Manifest.{Answer, answer_of, document_of, manifest_of, read_of}
 use Rattle.rim_manifest.specs.inside.Kept.{faults_in}
@@ -26,23 +26,24 @@ explains-syntax path bytes spot remarks none says =
       faults = no_document spot ∷ [];
       lowest = refl;
       more = 0;
-      counted = rw none (refl, refl);
+      shown = rw none (refl, refl);
       lines = subst (λ (document : Option Members). SayInTurn (fault_said path document (no_document spot) ∷ []) remarks) (sym none) says;
     }
 
-counted-same : (found : List Finding) (shown : List Located) → faults_at shown ≡ faults_in found → length shown ≡ length found
-counted-same found shown are =
-    sym (length-map shown (λ (l : Located). l.fault)) ∙ ap (λ (fs : List ManifestFault). length fs) are ∙ length-map found (λ (f : Finding). f.fault)
+counted-same : (found : List Finding) (shown : List Located) → faults_at shown ≡ faults_in found → length (faults_at shown) ≡ length found
+counted-same found shown are = ap (λ (fs : List ManifestFault). length fs) are ∙ length-map found (λ (f : Finding). f.fault)
 
 -- faults that were found are listed by a remark for each fault of an excerpt with the same lowest, and how many others there are
 pub lists-more : (path : List ℕ) (ms : Members) (listed shown : List Finding) (others more : ℕ) (old new : List Remark)
-    → lowest (faults_in shown) ≡ lowest (faults_in listed) → others ≤ more → length shown + more ≤ length listed + others
+    → IsSubsequence (faults_in shown) (faults_in listed) → lowest (faults_in shown) ≡ lowest (faults_in listed) → others ≤ more
+    → length shown + more ≤ length listed + others
     → ShowsFindings path ms shown old → AddsAll (others_said more) old new → ShowsList path ms (faults_in listed) others new
-lists-more path ms listed shown others more old new same beside within shows adds =
-    let count : length shows.faults ≡ length shown = counted-same shown shows.faults shows.are in
+lists-more path ms listed shown others more old new some same beside within shows adds =
+    let count : length (faults_at shows.faults) ≡ length shown = counted-same shown shows.faults shows.are in
     let all : length (faults_in listed) ≡ length listed = length-map listed (λ (f : Finding). f.fault) in
     record {
       faults = shows.faults;
+      some = subst (λ (fs : List ManifestFault). IsSubsequence fs (faults_in listed)) (sym shows.are) some;
       least = ap lowest shows.are ∙ same;
       more = more;
       beside = beside;
@@ -51,10 +52,11 @@ lists-more path ms listed shown others more old new same beside within shows add
     }
 
 pub lists-all : (path : List ℕ) (ms : Members) (listed shown : List Finding) (others more : ℕ) (remarks : List Remark)
-    → lowest (faults_in shown) ≡ lowest (faults_in listed) → others ≤ more → length shown + more ≤ length listed + others → more ≤ 0
+    → IsSubsequence (faults_in shown) (faults_in listed) → lowest (faults_in shown) ≡ lowest (faults_in listed) → others ≤ more
+    → length shown + more ≤ length listed + others → more ≤ 0
     → ShowsFindings path ms shown remarks → ShowsList path ms (faults_in listed) others remarks
-lists-all path ms listed shown others more remarks same beside within none shows =
-    lists-more path ms listed shown others 0 remarks remarks same (omega (arith, beside, none)) (omega (arith, within)) shows
+lists-all path ms listed shown others more remarks some same beside within none shows =
+    lists-more path ms listed shown others 0 remarks remarks some same (omega (arith, beside, none)) (omega (arith, within)) shows
     (λ (said : List Saying) (says : SayInTurn said remarks). subst (λ (ss : List Saying). SayInTurn ss remarks) (sym (append-nil said)) says)
 
 -- a document is explained by the list of what was found in it
@@ -64,7 +66,7 @@ explains-list path bytes ms listed others remarks found document shows = record 
   faults = shows.faults;
   lowest = shows.least ∙ found.lowest;
   more = shows.more;
-  counted = rw document (listed, others, found, shows.beside, shows.within);
+  shown = rw document (listed, others, found, shows.some, shows.beside, shows.within);
   lines = subst (λ (d : Option Members). SayInTurn (map (fault_said path d) shows.faults ++ others_said shows.more) remarks) (sym document) shows.lines;
 }
 

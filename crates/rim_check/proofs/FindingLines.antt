@@ -5,7 +5,9 @@ use Rattle.std.proofs.lemmas.List.{map-append, take_all}
 use Rattle.toml.specs.Data.{Members}
 use Rattle.rim_manifest.specs.declared.fault.ManifestFault.{ManifestFault}
 use Rattle.rim_manifest.specs.declared.finding.Finding.{Finding}
+use Rattle.rim_manifest.specs.Faults.{IsSubsequence}
 use Rattle.rim_manifest.specs.inside.Kept.{faults_in}
+use Rattle.rim_manifest.proofs.FaultsInTurn.{subsequence_longer, subsequence_next}
 use Rattle.rim_check.specs.Explained.{Located, fault_said}
 use Rattle.rim_check.specs.inside.Listed.{ShowsFindings, faults_at, located}
 use Rattle.shown_text.specs.declared.remark.Remark.{Remark}
@@ -15,6 +17,16 @@ use Rattle.rim_spot.specs.declared.spot.Spot.{Spot}
 faults-next : (found : List Finding) (f : Finding) → faults_in (found ++ f ∷ []) ≡ faults_in found ++ f.fault ∷ []
 faults-next [] f = refl
 faults-next (g ∷ found) f = ap (λ (fs : List ManifestFault). g.fault ∷ fs) (faults-next found f)
+
+-- the faults of an excerpt stay some of the others where the others have one more, and where both have one more
+pub some-longer : (found : List Finding) (f : Finding) (fs : List ManifestFault) → IsSubsequence (faults_in found) fs
+    → IsSubsequence (faults_in found) (fs ++ f.fault ∷ [])
+some-longer found f fs some = subsequence_longer (faults_in found) fs f.fault some
+
+pub some-next : (found : List Finding) (f : Finding) (fs : List ManifestFault) → IsSubsequence (faults_in found) fs
+    → IsSubsequence (faults_in (found ++ f ∷ [])) (fs ++ f.fault ∷ [])
+some-next found f fs some =
+    subst (λ (gs : List ManifestFault). IsSubsequence gs (fs ++ f.fault ∷ [])) (sym (faults-next found f)) (subsequence_next (faults_in found) fs f.fault some)
 
 -- one fault more
 shows-next : (path : List ℕ) (ms : Members) (found : List Finding) (f : Finding) (spot : Option Spot) (old new : List Remark)

@@ -1,7 +1,8 @@
 -- What is said of a manifest's faults and of the launches that are refused. This project's choice.
 use Rattle.std.specs.Prelude.{◌≡◌, ◌⊎◌, ◌≤◌, ◌+◌, ℕ, Bool, List, [], ◌∷◌, ◌++◌, ◌==◌, length, map, Option, Some, None, IsOk, Ok, Err, codes, decimal, nat_lt, option_map, if◌then◌else◌}
 use Rattle.rim_manifest.specs.declared.fault.ManifestFault.{ManifestFault}
-use Rattle.rim_manifest.specs.Faults.{kind_of, lowest}
+use Rattle.rim_manifest.specs.declared.fault.ManifestFault.TheVariants.{Syntax}
+use Rattle.rim_manifest.specs.Faults.{IsSubsequence, kind_of, lowest}
 use Rattle.rim_manifest.specs.Found.{AreFound}
 use Rattle.rim_manifest.specs.Launches.{NamedData, item_name}
 use Rattle.rim_manifest.specs.Manifest.{Answer, document_of}
@@ -60,20 +61,22 @@ others_text more = decimal more ++ (if more == 1 then codes " more fault" else c
 abbrev pub others_said : ℕ → List Saying
 others_said more = if nat_lt 0 more then said_of (Some []) (others_text more) [] [] ∷ [] else []
 
--- How many faults have a line, and how many more there are. A text that is no document has one. Of a document the others are at least those
--- that are not listed, and none that has a line is among them: what is listed and has no line is one of them, or has the cause of another.
-abbrev pub AreCounted : Option Members → ℕ → ℕ → Type 0
-AreCounted None count more = (count ≡ 1) × (more ≡ 0)
-AreCounted (Some ms) count more =
-    (listed : List ManifestFault) × (others : ℕ) × AreFound ms listed others × (others ≤ more) × (count + more ≤ length listed + others)
+-- These faults have a line, and this is the number of the others. A text that is no document has one fault. The faults of a document that
+-- have a line are some of those that were found in it, in their order. The others are at least the faults that are not listed; a listed
+-- fault without a line is one of the others, or has the cause of another fault.
+abbrev pub AreShown : Option Members → List ManifestFault → ℕ → Type 0
+AreShown None shown more = (shown ≡ Syntax ∷ []) × (more ≡ 0)
+AreShown (Some ms) shown more =
+    (listed : List ManifestFault) × (others : ℕ) × AreFound ms listed others × IsSubsequence shown listed
+    × (others ≤ more) × (length shown + more ≤ length listed + others)
 
--- there is a remark for each of some faults of the manifest with this path and these bytes, and then how many more there are; the lowest of
--- those with a remark is the one that the manifest is refused with
+-- there is a remark for each of some faults that were found in the manifest with this path and these bytes, and then how many more there
+-- are; the lowest of those with a remark is the one that the manifest is refused with
 pub record Explains (path bytes : List ℕ) (fault : ManifestFault) (remarks : List Remark) : Type 0 where
   pub faults : List Located
   pub lowest : lowest (map (λ l. l.fault) faults) ≡ Some fault
   pub more : ℕ
-  pub counted : AreCounted (document_of bytes) (length faults) more
+  pub shown : AreShown (document_of bytes) (map (λ l. l.fault) faults) more
   pub lines : SayInTurn (map (fault_said path (document_of bytes)) faults ++ others_said more) remarks
 
 -- a manifest is explained as faulty exactly where it is refused

@@ -1,6 +1,6 @@
 //! Which faults of a manifest have a line.
 ghost use Rattle.std.specs.Prelude.{◌≡◌, ◌≤◌, ◌+◌, IfOk, length};
-ghost use Rattle.rim_manifest.specs.Faults.{lowest};
+ghost use Rattle.rim_manifest.specs.Faults.{IsSubsequence, lowest};
 ghost use Rattle.rim_manifest.specs.inside.Kept.{faults_in};
 
 use crate::finding_detail::lacks_initrd;
@@ -26,11 +26,15 @@ pub(crate) struct Excerpt {
 }
 
 impl Excerpt {
-    ghost use Rattle.std.specs.Prelude.{◌≡◌, ◌≤◌, ◌+◌, OnOk, length};
-    ghost use Rattle.rim_manifest.specs.Faults.{lower};
+    ghost use Rattle.std.specs.Prelude.{◌≡◌, ◌≤◌, ◌+◌, [], ◌∷◌, ◌++◌, List, OnOk, length};
+    ghost use Rattle.rim_manifest.specs.Faults.{IsSubsequence, lower};
+    ghost use Rattle.rim_manifest.specs.declared.fault.ManifestFault.{ManifestFault};
 
     /// Adds a fault: a line, or one more of the others.
     fn add(&mut self, document: &Document, finding: &Finding) -> Result<(), NoMemory>
+        ensures some { OnOk result ((fs : List ManifestFault)
+            → IsSubsequence (faults_in self.old.findings.items) fs
+            → IsSubsequence (faults_in self.new.findings.items) (fs ++ finding.now.fault ∷ [])) }
         ensures least { OnOk result (self.new.least ≡ lower self.old.least finding.now.fault) }
         ensures beside { OnOk result (self.old.more ≤ self.new.more) }
         ensures within { OnOk result (length self.new.findings.items + self.new.more
@@ -57,6 +61,8 @@ pub(crate) fn take_excerpt(
     document: &Document,
     list: &FaultList,
 ) -> Result<Excerpt, NoMemory>
+    ensures some { IfOk result (λ e. IsSubsequence (faults_in e.findings.items)
+        (faults_in list.now.findings.items)) }
     ensures least { IfOk result (λ e. lowest (faults_in e.findings.items)
         ≡ lowest (faults_in list.now.findings.items)) }
     ensures beside { IfOk result (λ e. list.now.more ≤ e.more) }

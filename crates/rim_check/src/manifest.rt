@@ -28,9 +28,9 @@ pub enum ManifestCheck {
     Readable(Release),
 }
 
-/// Checks the manifest at a path: a remark for each of its faults, which is proved of the lowest alone, and how many there are beside
-/// these; or the release that it describes. A remark has the path, the line and the column of the fault in the text, its table and its key,
-/// its word, what is given and what is expected.
+/// Checks the manifest at a path: a remark for each of its faults, and how many there are beside these; or the release that it describes.
+/// It is proved that the lowest fault has a remark, and that each remark is on a fault that was found. A remark has the path, the line and
+/// the column of the fault in the text, its table and its key, its word, what is given and what is expected.
 pub fn check_manifest(alloc: Global, path: &str, text: &[u8]) -> Result<ManifestCheck, NoMemory>
     ensures { IfOk result (IsCheckOf path.now text.now (manifest_of text.now)) }
 {

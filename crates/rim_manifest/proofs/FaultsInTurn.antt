@@ -1,5 +1,5 @@
 -- Faults that are found one after another, and what is kept of them in the end.
-use Rattle.std.proofs.Common.{◌≡◌, ℕ, ◌+◌, ◌<◌, ◌≤◌, List, [], ◌∷◌, ◌++◌, length, get_or}
+use Rattle.std.proofs.Common.{◌≡◌, inl, inr, ℕ, ◌+◌, ◌<◌, ◌≤◌, List, [], ◌∷◌, ◌++◌, length, get_or}
 use Rattle.std.proofs.Common.{drop, map, Bool, true, false, Option, Some, None, refl, ap, append_assoc}
 use Rattle.std.proofs.Common.{append-nil, arith, length-append, subst, sym, ◌∙◌}
 use Rattle.std.specs.List.{flat_map}
@@ -11,7 +11,7 @@ use Rattle.rim_manifest.specs.declared.fault_list.FaultList.{FaultList}
 use Rattle.rim_manifest.specs.declared.finding.Finding.{Finding}
 use Rattle.rim_manifest.specs.declared.finding.Findings.{Findings}
 use Rattle.rim_manifest.specs.declared.finding.Findings.TheVariants as findings
-use Rattle.rim_manifest.specs.Faults.{is_lower, lower, lowest, noted, rank_of}
+use Rattle.rim_manifest.specs.Faults.{IsSubsequence, is_lower, lower, lowest, noted, rank_of}
 use Rattle.rim_manifest.specs.Found.{AreListed}
 use Rattle.rim_manifest.specs.inside.Findings.{kept, list_kept}
 use Rattle.rim_manifest.specs.inside.Kept.{Kept, Lowest, Listed, faults_in, is_listed, with_fault, with_faults}
@@ -72,9 +72,29 @@ not_lower (Some g) f other =
     let order : rank_of g ≤ rank_of f = ltb-false (rank_of f) (rank_of g) other in
     rw (le-leb (rank_of g) (rank_of f) order) refl
 
+-- ---- some of the faults, in their order
+
+pub subsequence_longer : (fs gs : List ManifestFault) (g : ManifestFault) → IsSubsequence fs gs → IsSubsequence fs (gs ++ g ∷ [])
+subsequence_longer [] gs g is = tt
+subsequence_longer (f ∷ fs) [] g is = absurd is
+subsequence_longer (f ∷ fs) (h ∷ gs) g (inl same) = inl (same.0, subsequence_longer fs gs g same.1)
+subsequence_longer (f ∷ fs) (h ∷ gs) g (inr later) = inr (subsequence_longer (f ∷ fs) gs g later)
+
+one_last : (gs : List ManifestFault) (g : ManifestFault) → IsSubsequence (g ∷ []) (gs ++ g ∷ [])
+one_last [] g = inl (refl, tt)
+one_last (h ∷ gs) g = inr (one_last gs g)
+
+-- the last fault is one more of both
+pub subsequence_next : (fs gs : List ManifestFault) (g : ManifestFault) → IsSubsequence fs gs → IsSubsequence (fs ++ g ∷ []) (gs ++ g ∷ [])
+subsequence_next [] gs g is = one_last gs g
+subsequence_next (f ∷ fs) [] g is = absurd is
+subsequence_next (f ∷ fs) (h ∷ gs) g (inl same) = inl (same.0, subsequence_next fs gs g same.1)
+subsequence_next (f ∷ fs) (h ∷ gs) g (inr later) = inr (subsequence_next (f ∷ fs) gs g later)
+
 -- the list after one more fault
 one_listed : (fs listed : List ManifestFault) (more : ℕ) (f : ManifestFault) → AreListed fs listed more → AreListed (fs ++ f ∷ []) (listed ++ f ∷ []) more
 one_listed fs listed more f are = record {
+  some = subsequence_next listed fs f are.some;
   lowest = noted_last None listed f ∙ ap (λ o. lower o f) are.lowest ∙ sym (noted_last None fs f);
   count =
       let a : length listed + more ≡ length fs = are.count in
@@ -96,6 +116,7 @@ one_more fs listed more f other are =
     let a : length listed + more ≡ length fs = are.count in
     let c : length (fs ++ f ∷ []) ≡ length fs + 1 = length-append fs (f ∷ []) in
     record {
+      some = subsequence_longer listed fs f are.some;
       lowest = sym (not_lower (lowest listed) f parts.1) ∙ ap (λ o. lower o f) are.lowest ∙ sym (noted_last None fs f);
       count = omega arith;
       all = λ few. let few : length (fs ++ f ∷ []) ≤ FINDING_LIMIT = few in absurd (omega arith);
@@ -126,7 +147,7 @@ list_kept_of fs listed more (g ∷ gs) are =
     by_test fs listed more g gs (is_listed listed g) refl are (λ to n next. list_kept_of (fs ++ g ∷ []) to n gs next)
 
 none_listed : AreListed [] [] 0
-none_listed = record { lowest = refl; count = refl; all = λ few. refl }
+none_listed = record { some = tt; lowest = refl; count = refl; all = λ few. refl }
 
 pub list_is : (found : Findings) (fs : List ManifestFault) (list : FaultList) → found ≡ findings.Listed list
     → kept found ≡ with_faults (Listed [] 0) fs → AreListed fs (faults_in list.findings.items) list.more

@@ -1,5 +1,5 @@
 -- The faults of a manifest in their order, and the lowest of those that hold. This project's choice.
-use Rattle.std.specs.Prelude.{ℕ, ◌≤◌, Bool, true, List, [], ◌∷◌, Option, Some, None, All, Contains, nat_le, nat_lt, codes, if◌then◌else◌}
+use Rattle.std.specs.Prelude.{◌≡◌, ◌⊎◌, ℕ, ◌≤◌, Bool, true, List, [], ◌∷◌, Option, Some, None, All, Contains, nat_le, nat_lt, codes, if◌then◌else◌}
 use Rattle.rim_manifest.specs.declared.fault.ManifestFault.{ManifestFault}
 use Rattle.rim_manifest.specs.declared.fault.ManifestFault.TheVariants.{Syntax, Version, WrongKind, UnknownKey, MissingKey, Limit, Range, TwoNames, NoSuchFile, BadStep, NoMemory}
 
@@ -58,3 +58,9 @@ fault_if b f = if b then f ∷ [] else []
 pub record IsLowest (f : ManifestFault) (fs : List ManifestFault) : Type 0 where
   pub holds : Contains fs f
   pub first : All (λ g. rank_of f ≤ rank_of g) fs
+
+-- the first faults are some of the others, in the same order: a fault is in the first list no more often than in the second
+abbrev pub IsSubsequence : List ManifestFault → List ManifestFault → Type 0
+IsSubsequence [] gs = Unit {0}
+IsSubsequence (f ∷ fs) [] = ⊥
+IsSubsequence (f ∷ fs) (g ∷ gs) = ((f ≡ g) × IsSubsequence fs gs) ⊎ IsSubsequence (f ∷ fs) gs

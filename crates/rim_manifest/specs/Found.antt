@@ -4,14 +4,15 @@ use Rattle.toml.specs.Data.{Members}
 use Rattle.rim_manifest.specs.declared.document.Checked.{Checked}
 use Rattle.rim_manifest.specs.declared.document.Checked.TheVariants.{Accepted, Refused}
 use Rattle.rim_manifest.specs.declared.fault.ManifestFault.{ManifestFault}
-use Rattle.rim_manifest.specs.Faults.{lowest}
+use Rattle.rim_manifest.specs.Faults.{IsSubsequence, lowest}
 use Rattle.rim_manifest.specs.Manifest.{manifest_faults, read_of}
 use Rattle.rim_manifest.specs.inside.Kept.{faults_in}
 use Rattle.rim_manifest.specs.declared.fault_list.TheConstants.{FINDING_LIMIT}
 
--- of some faults these are listed, and this is the number of the others: all are listed where they are as few as a list may have, and
--- the lowest always
+-- these faults are listed, and this is the number of the others: only faults that hold are listed. All of them are listed where they are
+-- as few as a list may have, and the lowest always is
 pub record AreListed (faults listed : List ManifestFault) (more : ℕ) : Type 0 where
+  pub some : IsSubsequence listed faults
   pub lowest : lowest listed ≡ lowest faults
   pub count : length listed + more ≡ length faults
   pub all : length faults ≤ FINDING_LIMIT → listed ≡ faults

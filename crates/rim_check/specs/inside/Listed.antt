@@ -1,7 +1,7 @@
 -- The lines of faults that were found in a document. This project's choice.
 use Rattle.std.specs.Prelude.{◌≡◌, ◌≤◌, ◌+◌, ℕ, List, ◌++◌, length, map, Option, Some}
 use Rattle.toml.specs.Data.{Members}
-use Rattle.rim_manifest.specs.Faults.{lowest}
+use Rattle.rim_manifest.specs.Faults.{IsSubsequence, lowest}
 use Rattle.rim_manifest.specs.declared.fault.ManifestFault.{ManifestFault}
 use Rattle.rim_manifest.specs.declared.fault.ManifestFault.TheVariants.{Syntax}
 use Rattle.rim_manifest.specs.declared.finding.Place.TheVariants as place
@@ -32,13 +32,14 @@ pub record ShowsFindings (path : List ℕ) (ms : Members) (found : List Finding)
   pub are : faults_at faults ≡ faults_in found
   pub lines : SayInTurn (map (fault_said path (Some ms)) faults) remarks
 
--- there is a remark for each of some of these faults and others, and then how many of them have none
+-- there is a remark for each of some of these faults, and then how many of these faults and of the others have none
 pub record ShowsList (path : List ℕ) (ms : Members) (listed : List ManifestFault) (others : ℕ) (remarks : List Remark) : Type 0 where
   pub faults : List Located
+  pub some : IsSubsequence (faults_at faults) listed
   pub least : lowest (faults_at faults) ≡ lowest listed
   pub more : ℕ
   pub beside : others ≤ more
-  pub within : length faults + more ≤ length listed + others
+  pub within : length (faults_at faults) + more ≤ length listed + others
   pub lines : SayInTurn (map (fault_said path (Some ms)) faults ++ others_said more) remarks
 
 -- a manifest is checked, and has such a list

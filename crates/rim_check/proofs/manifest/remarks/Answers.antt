@@ -14,9 +14,9 @@ returns c =
     let shows = subst (λ (fs : List Finding). ShowsFindings path ms fs c.in_ok-remarks.remarks.items) c.deref-2.ensures.value c.in_ok-remarks.ensures in
     elim c.if-excerpt-gt0.branch [
       | then-excerpt-gt0+in_ok-push_others w ↦
-          rw w.remarks-is (lists-more path ms _ excerpt.findings.items _ excerpt.more _ _ c.in_ok-excerpt.ensures.least c.in_ok-excerpt.ensures.beside
-          c.in_ok-excerpt.ensures.within shows w.in_ok-push_others.ensures)
+          rw w.remarks-is (lists-more path ms _ excerpt.findings.items _ excerpt.more _ _ c.in_ok-excerpt.ensures.some
+          c.in_ok-excerpt.ensures.least c.in_ok-excerpt.ensures.beside c.in_ok-excerpt.ensures.within shows w.in_ok-push_others.ensures)
       | else-excerpt-gt0 w ↦
-          rw w.remarks-is (lists-all path ms _ excerpt.findings.items _ excerpt.more _ c.in_ok-excerpt.ensures.least c.in_ok-excerpt.ensures.beside
-          c.in_ok-excerpt.ensures.within w.if-excerpt-gt0.false shows)
+          rw w.remarks-is (lists-all path ms _ excerpt.findings.items _ excerpt.more _ c.in_ok-excerpt.ensures.some
+          c.in_ok-excerpt.ensures.least c.in_ok-excerpt.ensures.beside c.in_ok-excerpt.ensures.within w.if-excerpt-gt0.false shows)
     ]
