@@ -1,56 +1,102 @@
-"""A hypervisor's command line, out of a text or of words: what is before its program, such as `sudo` or variables, is passed over.
+"""Finds a hypervisor's command line in a text or among words.
 
-A text is read as a POSIX shell reads it: quotes, backslashes, comments, lines that go on, commands, redirections. Python's `shlex` does not
-join lines, and does not say which `$` was between quotes. What a shell would expand is refused where it is in the hypervisor's command:
-no shell is run, so what comes of it is not known.
+A text is read as a POSIX shell reads it: quotes, backslashes, comments, continued lines, commands, redirections. No shell is run, so the
+hypervisor's command is refused if a shell would expand a part of it. A command before it, or a prefix of its program such as `sudo -E`, is
+skipped only if it is known to change neither the folder nor the host. All else is refused: a list of what does would never be complete.
+
+`shlex` is not used. It does not join continued lines, begins comments within words, and does not tell which `$` is in single quotes.
 """
 from __future__ import annotations
 
 import os
 import re
+from collections.abc import Iterator
 from dataclasses import dataclass, field
 
 from outside import files
 from outside.faults import Fault, WrongWords
 from outside.texts import shown, visible
 
-# How long a text may be.
-MOST = 4 << 20
-# What a text is made of, outside of quotes; the first that fits counts. A text that fits none begins a quote that does not end.
+# Greatest length of a text, which bounds the time for an odd one to a few seconds.
+MOST = 1 << 20
+# The pieces of a word, and the tokens of a text; the first alternative that matches counts. `open` is a quote or a backslash without an end.
+PIECES = r"""(?P<joined>\\\n)|\\(?P<escaped>.)|'(?P<single>[^']*)'|"(?P<double>[^"\\]*(?:\\.[^"\\]*)*)"|(?P<plain>(?:[^ \t\n\\'";&|()<>$]+|\$\(?|[<>]\()+)"""
+PIECE = re.compile(PIECES, re.S)
 TOKEN = re.compile(r"""
-    (?P<joined>\\\n) | (?P<escaped>\\.) | (?P<single>'[^']*') | (?P<double>"(?:[^"\\]|\\.)*") | (?P<blank>[ \t\f\v]+) | (?P<end>[\n;&|()]) |
-    (?P<expands>[<>]\(|\$(?=[A-Za-z0-9_{(@*#?$!'"-])|`|[*?\[]|\{(?=\S)) | (?P<redirect><<<|<<-?|[<>]&|<>|>>|>\||[<>]) |
-    (?P<plain>[^\s\\'"$`*?\[{;&|()<>]+|.)
-""", re.X | re.S)
-# What is between double quotes: a backslash is one but before these.
-INNER = re.compile(r"""\\\n|\\([$`"\\])|(\$(?=[A-Za-z0-9_{(@*#?$!-])|`)""")
-
-# What may be before a program without another guest: how it is run, by whom, on which processors; and words of the shell's.
-BEFORE = frozenset("exec sudo doas env nohup setsid time timeout nice ionice chrt taskset numactl stdbuf command if then else do ! {".split())
-# Their options that have paths mean others, and commands that do.
-MOVES = re.compile(r"-C|-D|-R|--chdir(=.*)?|--chroot(=.*)?")
-GOES = ("cd", "pushd", "chroot")
+    (?P<blank>(?:[ \t]|\\\n)+) | (?P<end>[\n;&|]+) | (?P<parenthesis>[()]+) | (?P<redirect>[0-9]*(?:<<<|<<-?|[<>]&|<>|>>|>\||[<>](?!\()))
+    | (?P<comment>\#[^\n]* | (?:\A|(?<=[^\\]\n))[0-9]{4}-[0-9]{2}-[0-9]{2}[ ][0-9:]{8}\.[0-9]{3}\+[0-9]{4}:[ ][^\n]*)    # a line of libvirt's log
+    | (?P<word>(?:""" + re.sub(r"\?P<\w+>", "?:", PIECES) + r")+) | (?P<open>.)", re.X | re.S)
+# Between double quotes: an escaped character, or what a shell expands.
+INNER = re.compile(r"""\\(?:\n|([$`"\\])|.)|(\$(?=[A-Za-z0-9_{(\[@*#?$!-])|`)""", re.S)
+EXPANDS = re.compile(r"""[<>]\(|\$(?=[A-Za-z0-9_{(\[@*#?$!-]|\Z)|`|[*?\[{]|\A~""")
+# A word without quotes and expansions.
+PLAIN = re.compile(r"""[^\\'"$`<>*?\[{~]+""")
+# Expansions that run no command and contain no quotes. Others may end elsewhere than they seem to.
+SIMPLE = re.compile(r"\$[A-Za-z0-9_@*#?$!-]|\$\{[A-Za-z0-9_]+\}|[*?\[{~]")
 ASSIGNS = re.compile(r"[A-Za-z_][A-Za-z0-9_]*=.*", re.S)
+# Arguments of `set` that do not change how later commands are read.
+SETS = re.compile(r"[-+][aefuvxo]+|pipefail|errexit|nounset|xtrace|verbose")
+GOES = ("cd", "pushd")
+
+
+@dataclass(frozen=True)
+class Prefix:
+    """A program that runs another one in its own folder: patterns of its options that stand alone and of those with a value in the next word;
+    the number of its operands; whether variables may follow."""
+
+    alone: str = ""
+    valued: str = ""
+    operands: int = 0
+    assigns: bool = False
+
+
+PREFIXES = {
+    "exec": Prefix(),
+    "nohup": Prefix(),
+    "setsid": Prefix("-f|-w|--fork|--wait"),
+    "time": Prefix("-p|-v"),
+    "sudo": Prefix("-E|-H|-n|-b|--preserve-env(=.*)?", "-u|-g", assigns=True),
+    "doas": Prefix("-n", "-u"),
+    "env": Prefix("-|-i|--ignore-environment|--unset=.*", "-u", assigns=True),
+    "timeout": Prefix("-v|--foreground|--preserve-status|-[ks][0-9A-Za-z.]+|--(kill-after|signal)=.*", "-k|-s", 1),
+    "nice": Prefix("-n?-?[0-9]+|--adjustment=.*", "-n"),
+    "ionice": Prefix("-[cn][0-9]|-t", "-c|-n"),
+    "chrt": Prefix("-[fribo]|--(fifo|rr|batch|idle|other)", operands=1),
+    "taskset": Prefix("-a|-c|-ac|--all-tasks|--cpu-list", operands=1),
+    "numactl": Prefix("-l|--localalloc|--(cpunodebind|physcpubind|membind|interleave|preferred)=.*", "-[NCmip]"),
+    "stdbuf": Prefix("-[ioe](L|[0-9]+[KMG]?)|--(input|output|error)=.*", "-[ioe]"),
+}
 
 
 @dataclass
 class Command:
-    """A command of a shell: where it begins, its words, and where in it a shell would expand something, and what."""
+    """A command of a shell: its position, its words, and the positions of its first expansion and of the first one that is not simple."""
 
-    at: int = 0
+    at: int
     words: list[str] = field(default_factory=list)
-    expands: tuple[int, str] | None = None
+    expands: int | None = None
+    computes: int | None = None
+
+    def add(self, at: int, word: str):
+        """Adds a word at a position of a text."""
+        self.at = at if not self.words else self.at
+        if PLAIN.fullmatch(word):
+            self.words.append(word)
+            return
+        self.words.append(unquoted(word))
+        for place in expansions(word):
+            self.expands = at + place if self.expands is None else self.expands
+            if not SIMPLE.match(word, place):
+                self.computes = at + place if self.computes is None else self.computes
+                return
 
 
-class Reader:
-    """Reads the commands of a text."""
+@dataclass(frozen=True)
+class Text:
+    """A text and the path of its file."""
 
-    def __init__(self, path: str, text: str):
-        self.path, self.text = path, text
-        self.commands: list[Command] = []
-        self.command = Command()
-        self.word: list[str] | None = None      # the parts of a word that is being read
-        self.skips = False                      # whether the next word is where a redirection goes to
+    path: str
+    text: str
 
     def line(self, at: int) -> int:
         return self.text.count("\n", 0, at) + 1
@@ -58,135 +104,141 @@ class Reader:
     def fault(self, at: int, what: str) -> Fault:
         return Fault(f"{visible(self.path)}: line {self.line(at)}: {what}")
 
-    def end_word(self):
-        if self.word is not None:
-            if not self.skips:
-                self.command.words.append("".join(self.word))
-            self.skips = False
-        self.word = None
-
-    def end_command(self):
-        self.end_word()
-        if self.command.words:
-            self.commands.append(self.command)
-        self.command, self.skips = Command(), False
-
-    def put(self, at: int, part: str):
-        if self.word is None and not self.command.words:
-            self.command.at = at
-        if self.word is None:
-            self.word = []
-        self.word.append(part)
-
-    def expand(self, at: int):
-        self.command.expands = self.command.expands or (at, self.text[at:at + 20].split("\n")[0])
-
-    def inner(self, at: int, text: str) -> str:
-        """The text between double quotes."""
-        def one(found: re.Match) -> str:
-            if found[2]:
-                self.expand(at + found.start())
-            return found[1] or found[2] or ""
-        return INNER.sub(one, text)
-
-    def redirect(self, at: int, sign: str):
-        if sign.startswith("<<"):
-            raise self.fault(at, "a document in the text, which is not read here, expected a command line alone")
-        if self.word and "".join(self.word).isdigit():
-            self.word = None
-        self.end_word()
-        self.skips = True
-
-    def read(self) -> list[Command]:
-        at = 0
-        while at < len(self.text):
-            if self.word is None and self.text[at] == "#":
-                at = self.text.find("\n", at) % (len(self.text) + 1)
-                continue
-            found = TOKEN.match(self.text, at)
-            assert found
-            self.take(at, found.lastgroup or "", found[0])
-            at = found.end()
-        self.end_command()
-        return self.commands
-
-    def take(self, at: int, kind: str, text: str):
-        if kind == "blank":
-            self.end_word()
-        elif kind == "end":
-            self.end_command()
-        elif kind == "redirect":
-            self.redirect(at, text)
-        elif kind == "single":
-            self.put(at, text[1:-1])
-        elif kind == "double":
-            self.put(at, self.inner(at + 1, text[1:-1]))
-        elif kind == "escaped":
-            self.put(at, text[1])
-        elif kind in ("plain", "expands"):
-            if text in ("'", '"', "\\"):
-                raise self.fault(at, f"{text} has no end, expected one" if text != "\\" else "it ends with a backslash, expected a line after it")
-            if kind == "expands" or (self.word is None and text.startswith("~")):
-                self.expand(at)
-            self.put(at, text)
+    def expansion(self, at: int) -> Fault:
+        """Returns the fault of something that a shell expands."""
+        return self.fault(at, f"{shown(self.text[at:at + 20].split(chr(10))[0])}: a shell would expand it, and none is run, expected its value, or "
+                          "single quotes where it is meant as it is")
 
 
-def program_at(words: list[str], program: str) -> int | None:
-    """Where in a command the program is, by its name. A variable that has its path is none."""
-    pattern = re.compile(program)
-    return next((at for at, word in enumerate(words) if pattern.fullmatch(os.path.basename(word)) and not ASSIGNS.fullmatch(word)), None)
+def expansions(word: str) -> Iterator[int]:
+    """Yields the positions of what a shell expands in a word."""
+    for piece in PIECE.finditer(word):
+        pattern = {"plain": EXPANDS, "double": INNER}.get(piece.lastgroup or "")
+        for found in pattern.finditer(piece[piece.lastgroup]) if pattern else ():
+            if pattern is EXPANDS and (found[0] != "~" or not piece.start()) or found.lastindex == 2:
+                yield piece.start(piece.lastgroup) + found.start()
 
 
-def why_not(before: list[str]) -> str | None:
-    """Why a command is not read, by what is before its program."""
-    first = next((word for word in before if not ASSIGNS.fullmatch(word)), None)
-    if first is None:
-        return None
-    if os.path.basename(first) not in BEFORE:
-        return f"{shown(first)} is before the program, and what it does is not known, expected the command line alone"
-    if moves := next((word for word in before if MOVES.fullmatch(word)), None):
-        return f"{shown(moves)} is before the program, so that paths are of another folder, expected -C DIR of rim-manifest's before `--`"
-    return None
+def unquoted(word: str) -> str:
+    """Returns a word without its quotes."""
+    def piece(found: re.Match) -> str:
+        kind = found.lastgroup
+        if kind == "double":
+            return INNER.sub(lambda each: each[1] or ("" if each[0] == "\\\n" else each[0]), found[kind])
+        return "" if kind == "joined" else found[kind]
+    return PIECE.sub(piece, word)
+
+
+def read(text: Text) -> list[Command]:
+    """Returns the commands of a text. Parentheses are one by themselves."""
+    commands, command, is_target = [], Command(0), False
+    for found in TOKEN.finditer(text.text):
+        kind, at = found.lastgroup, found.start()
+        if kind == "open":
+            why = "it ends with a backslash, expected a line after it" if found[0] == "\\" else f"{found[0]} has no end, expected one"
+            raise text.fault(at, why)
+        if kind == "redirect" and "<<" in found[0]:
+            raise text.fault(at, "a document in the text, which is not read here, expected a command line alone")
+        if kind == "word" and not is_target:
+            command.add(at, found[0])
+        elif kind == "parenthesis" and command.words and command.expands is None:
+            command.expands = at
+        if kind in ("end", "parenthesis"):
+            commands += [command] * bool(command.words) + [Command(at, [found[0]])] * (kind == "parenthesis")
+            command = Command(at)
+        is_target = kind == "redirect" or is_target and kind in ("blank", "comment")
+    return commands + [command] * bool(command.words)
+
+
+def has_program(words: list[str], program: re.Pattern) -> bool:
+    """Checks whether a program is among some words, by its name. A variable with its path does not count."""
+    return any(program.fullmatch(os.path.basename(word)) and not ASSIGNS.fullmatch(word) for word in words)
+
+
+def after_options(prefix: Prefix, words: list[str], at: int) -> int:
+    """Returns the index after a prefix's options and operands, or that of its first unknown option."""
+    while at < len(words) and words[at].startswith("-"):
+        if re.fullmatch(prefix.valued, words[at]):
+            at += 2
+        elif re.fullmatch(prefix.alone, words[at]):
+            at += 1
+        else:
+            return at
+    return at + prefix.operands
+
+
+def program_at(words: list[str], program: re.Pattern) -> int:
+    """Returns the index of the program, which only variables and known prefixes may precede."""
+    at, assigns = 0, True
+    while at < len(words):
+        name = os.path.basename(words[at])
+        if assigns and ASSIGNS.fullmatch(words[at]):
+            at += 1
+        elif name in PREFIXES:
+            at, assigns = after_options(PREFIXES[name], words, at + 1), PREFIXES[name].assigns
+        elif program.fullmatch(name):
+            return at
+        else:
+            break
+    raise WrongWords(unknown(words[min(at, len(words) - 1)]))
+
+
+def unknown(text: str) -> str:
+    return f"{shown(text)} is before the program, and its effect is not known, expected the command line alone; -C DIR says where it is run"
+
+
+def is_harmless(words: list[str]) -> bool:
+    """Checks whether a command changes nothing for the commands after it."""
+    return words[0] in ("echo", "export") or words[0] == "set" and all(map(SETS.fullmatch, words[1:])) or all(map(ASSIGNS.fullmatch, words))
 
 
 def of_words(words: list[str], program: str, title: str) -> tuple[str, list[str]]:
-    """The program of a line of words, and its words."""
-    at = program_at(words, program)
-    if at is None:
+    """Returns the program of a command line, and the words after it."""
+    pattern = re.compile(program)
+    if not has_program(words, pattern):
         raise WrongWords(f"{shown(words[0])}: it is after `--`, and no program of {title}'s is there, expected all of its command line")
-    if why := why_not(words[:at]):
-        raise WrongWords(why)
+    at = program_at(words, pattern)
     return words[at], words[at + 1:]
 
 
-def commands_of(path: str) -> tuple[Reader, list[Command]]:
-    """The commands of a file."""
+def commands_of(path: str) -> tuple[Text, list[Command]]:
+    """Returns the commands of a file."""
     what = "a command line, or a shell's script with one"
-    reader = Reader(path, files.text_of(path, files.read(path, MOST, what), what))
+    text = Text(path, files.text_of(path, files.read(path, MOST, what), what))
     for letter, name in (("\r", "a carriage return, expected lines that end with a line feed alone"), ("\0", "a zero byte, expected a text")):
-        if letter in reader.text:
-            raise reader.fault(reader.text.index(letter), name)
-    commands = reader.read()
+        if letter in text.text:
+            raise text.fault(text.text.index(letter), name)
+    commands = read(text)
     if cut := next((each for each in commands if each.words[0].startswith("-")), None):
-        raise reader.fault(cut.at, f"a command begins with {shown(cut.words[0])}, expected a backslash at the end of the line before it")
-    return reader, commands
+        raise text.fault(cut.at, f"a command begins with {shown(cut.words[0])}, expected a backslash at the end of the line before it")
+    return text, commands
+
+
+def check_before(text: Text, command: Command, has_folder: bool):
+    """Refuses a command before the hypervisor's, unless it is harmless."""
+    if command.computes is not None:
+        raise text.expansion(command.computes)
+    if command.words[0] in GOES and not has_folder:
+        raise text.fault(command.at, f"{shown(' '.join(command.words))}: paths are of another folder after it, expected -C DIR, which says of which")
+    if command.words[0] not in GOES and not is_harmless(command.words):
+        raise text.fault(command.at, unknown(" ".join(command.words)))
 
 
 def of_file(path: str, program: str, title: str, has_folder: bool) -> list[str]:
-    """The words of the only command line of a hypervisor that a file has; `has_folder`: whether it is said from where paths are."""
-    reader, commands = commands_of(path)
-    found = [(each, at) for each in commands if (at := program_at(each.words, program)) is not None]
+    """Returns the words after the program of the only command line of a hypervisor in a file. `has_folder`: whether -C says where it is run."""
+    (text, commands), pattern = commands_of(path), re.compile(program)
+    found = [number for number, each in enumerate(commands) if has_program(each.words, pattern) and not is_harmless(each.words)]
     if len(found) != 1:
-        lines = " and ".join(str(reader.line(each.at)) for each, _ in found[:2])
+        lines = " and ".join(str(text.line(commands[number].at)) for number in found[:2])
         has = f"it has {len(found)} command lines of {title}'s, in lines {lines}" if found else f"it has no command line of {title}'s"
         raise Fault(f"{visible(path)}: {has}, expected one")
-    command, at = found[0]
-    if command.expands:
-        raise reader.fault(command.expands[0], f"{shown(command.expands[1])}: a shell would expand it, and none is run, expected its value, or "
-                           "single quotes where it is meant as it is")
-    if why := why_not(command.words[:at]):
-        raise reader.fault(command.at, why)
-    goes = next((each for each in commands[:commands.index(command)] if each.words[0] in GOES), None)
-    if goes and not has_folder:
-        raise reader.fault(goes.at, f"{shown(' '.join(goes.words))}: paths are of another folder after it, expected -C DIR, which says of which")
+    for each in commands[:found[0]]:
+        check_before(text, each, has_folder)
+    command = commands[found[0]]
+    try:
+        at = program_at(command.words, pattern)
+    except WrongWords as why:
+        raise text.fault(command.at, why.lines[0]) from None
+    if command.expands is not None:
+        raise text.expansion(command.expands)
     return command.words[at + 1:]

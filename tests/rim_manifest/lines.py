@@ -9,10 +9,10 @@ import tomllib
 from helpers import MIB, SECONDS
 from helpers.files import tree
 from helpers.folders import Folder
-from helpers.guests import INITRD, LINES, NO_PCIE, host
+from helpers.guests import HAND, INITRD, LINES, NO_PCIE, host
 from helpers.tries import differs
 from outside.faults import Fault
-from vmm.lines import Reader
+from vmm.lines import Text, of_file, read
 
 from .written import first, read_by, recorded
 
@@ -30,19 +30,37 @@ def read_by_shell(text: str, folder: str) -> list[list[str]] | None:
 
 def as_a_shell(_program: str):
     """Texts are read as the shell of this machine reads them, in which other commands are unknown."""
-    wrong, draw, read = [], random.Random(1), 0
+    wrong, draw, count = [], random.Random(1), 0
     with Folder() as folder:
         for _ in range(300):
             text = "f " + "".join(draw.choice(PIECES) for _ in range(draw.randrange(1, 14)))
             try:
-                has = [each.words[1:] for each in Reader("text", text).read() if each.words[0] == "f"]
+                has = [each.words[1:] for each in read(Text("text", text)) if each.words[0] == "f"]
             except Fault:
                 continue
             expected = read_by_shell(text, folder.path)
             if expected is not None:
                 wrong += differs(ascii(text), has, expected)
-                read += 1
-    return wrong + differs("many are read", read > 50, True)
+                count += 1
+    return wrong + differs("many are read", count > 50, True)
+
+
+# What may come before a command line.
+BEFORE = ["#!/bin/sh\n# a ( comment \\\n", "set -eu -o pipefail; export A B=c\necho \"$A\" ${B} * &&\n", "A=b C='d e'\n", "sudo -E -u root A=b ", "A=b env -i -u C D=e ",
+          "exec nohup setsid -w nice -n 5 ionice -c2 -n 7 ", "time -p timeout -k 5 --signal=INT 1h ", "taskset -c 0-3 chrt -f 1 ", "doas -u root ",
+          "numactl -C 0-3 --membind=0 -l stdbuf -oL -e 0 ", "/usr/bin/env nice -10 /usr/bin/sudo ",
+          "2026-11-02 09:14:07.512+0000: starting up; can't (\n", "\t>log 2>&1 \\\n "]
+
+
+def known(_program: str):
+    """Known prefixes and harmless commands before the program are skipped."""
+    wrong = []
+    for before in BEFORE:
+        with Folder({"l": (before + HAND).encode()}) as folder:
+            wrong += differs(before, of_file(os.path.join(folder.path, "l"), "qemu-system-aarch64", "QEMU", False), HAND.split()[1:])
+    with Folder({"l": f"cd other\n{HAND}".encode()}) as folder:
+        wrong += differs("cd with -C", of_file(os.path.join(folder.path, "l"), "qemu-system-aarch64", "QEMU", True), HAND.split()[1:])
+    return wrong
 
 
 def line(program: str, name: str):

@@ -72,6 +72,9 @@ WRONG = [
         (["-serial", "null"], '"-serial": rim-manifest makes no launch of it, expected it after `--`'),
         (["-nographic", "-m", "1G", "-drive", "file=x", "--algo", "sha256", "-enable-kvm"],
          '"-nographic", "-drive", "-enable-kvm": rim-manifest makes no launch of them, expected them after `--`'), (["-new"], '"-new": no word of this hypervisor\'s'))],
+    *[(f"a program after --: {' '.join(given)}", ["qemu", *LINE_OF, "--", *given, *HAND.split()],
+       f'"{why}" is before the program, and its effect is not known, expected the command line alone') for given, why in (
+        (["sudo", "-Dother"], "-Dother"), (["sudo", "docker", "run", "a"], "docker"), (["timeout", "60", "ssh", "arm1"], "ssh"))],
     *[(f"after --: {' '.join(given)}", [*QEMU, "--qemu", "q", "--", *given], why) for given, why in (
         (["-device", "driver=loader,file=F"], "it loads what no table places"), (["-device", "guest-loader,file=F"], "it loads what no"),
         (["-device", '{"driver":"loader","file":"F"}'], "it loads what no table places"), (["-device", "{"], "it begins as JSON and is none"),
@@ -328,7 +331,7 @@ LINE_STOPS = [
     ("lkvm: another command", "kvmtool", "lkvm stop -a", 2, '"stop": it comes after lkvm, expected run and its words'),
     ("cloud-hypervisor: a word twice", "cloud-hypervisor", "cloud-hypervisor --kernel a --kernel b", 2, "--kernel: it is given 2 times, expected once"),
     ("cloud-hypervisor: a word of its platform", "cloud-hypervisor", "cloud-hypervisor --kernel Image --platform tdx=on", 2, '"tdx" changes is not'),
-    ("a long command line of the kernel", "qemu", HAND + " -append " + "a" * (1 << 20), 2, "has 1048576 bytes, expected at most 65536"),
+    ("a long command line of the kernel", "qemu", HAND + " -append " + "a" * (1 << 19), 2, "has 524288 bytes, expected at most 65536"),
     ("a variable", "qemu", "K=Image\n" + HAND + ' -initrd "$K"', 3, 'l: line 2: "$K\\"": a shell would expand it, and none is run, expected'),
     ("a command in a command", "qemu", HAND + " -initrd `ls`", 3, 'l: line 1: "`ls`": a shell would expand it'),
     ("a pattern", "qemu", HAND + " -initrd initrd*", 3, 'l: line 1: "*": a shell would expand it'),
@@ -345,10 +348,26 @@ LINE_STOPS = [
     ("no line", "qemu", LKVM_HAND, 3, "l: it has no command line of QEMU's, expected one"),
     ("a script of its name", "qemu", HAND.replace("64 ", "64.sh "), 3, "l: it has no command line of QEMU's, expected one"),
     ("another program", "qemu", HAND.replace("aarch64", "x86_64"), 3, "l: it has no command line of QEMU's, expected one"),
-    ("another folder", "qemu", f"cd /\n{HAND}", 3, 'l: line 1: "cd /": paths are of another folder after it, expected -C DIR'),
-    ("a folder of env's", "qemu", f"env -C / {HAND}", 3, 'l: line 1: "-C" is before the program, so that paths are of another folder'),
-    ("another program before it", "qemu", f"docker run a {HAND}", 3, 'l: line 1: "docker" is before the program, and what it does is not known'),
-    ("a text that is long", "qemu", "#" * (4 << 20 | 1), 3, "l: it has more than 4194304 bytes"),
+    ("another folder", "qemu", f"\\cd /\n{HAND}", 3, 'l: line 1: "cd /": paths are of another folder after it, expected -C DIR'),
+    *[(f"before the command: {before}", "qemu", f"{before}\n{HAND}", 3, f'l: line 1: "{shown}" is before the program, and its effect is not known')
+      for before, shown in (
+          ("if cd other; then", "if cd other"), ("{ cd other", "{ cd other"), ("command cd other", "command cd other"), ("X=1 cd other", "X=1 cd other"),
+          ("alias qemu-system-aarch64='ssh arm1 qemu'", "alias qemu-system-aarch64=ssh arm1 qemu"), (". ./env.sh", ". ./env.sh"),
+          ("(cd other", "("), ("run() {", "run"), ("set -k", "set -k"), ("export A=b; chroot other", "chroot other"),
+          ("2026-11-02 cd", "2026-11-02 cd"))],
+    *[(f"before the command: {before}", "qemu", f"{before}\n{HAND}", 3, f'l: line 1: "{shown}": a shell would expand it')
+      for before, shown in (
+          ('A="$(pwd)"', "$(pwd)\\\""), ("A=$(pwd)", "$(pwd)"), ("echo `pwd`", "`pwd`"), ("A=$[1+1]", "$[1+1]"), ("A=${B:-c}", "${B:-c}"))],
+    *[(f"before the program: {before}", "qemu", f"{before} {HAND}", 3, f'l: line 1: "{shown}" is before the program, and its effect is not known')
+      for before, shown in (
+          ("env -C /", "-C"), ("env -Cother", "-Cother"), ("env -iC other", "-iC"), ("env --chd=other", "--chd=other"), ("env -S '-C /'", "-S"),
+          ("sudo -Dother", "-Dother"), ("sudo -nD other", "-nD"), ("sudo -i", "-i"), ("sudo --login", "--login"), ("docker run a", "docker"),
+          ("sudo docker run a", "docker"), ("sudo chroot other", "chroot"), ("timeout 60 ssh arm1", "ssh"), ("nohup systemd-nspawn", "systemd-nspawn"),
+          ("A=b sudo nsenter -a", "nsenter"), ("doas vi", "vi"), ("nohup A=b", "A=b"), ("{", "{"), ("taskset -c", "-M"))],
+    ("an arithmetic expansion", "qemu", HAND + ' -append "a=$[1+1]"', 3, 'l: line 1: "$[1+1]\\"": a shell would expand it'),
+    ("a parenthesis", "qemu", HAND + " -append +(a)", 3, 'l: line 1: "(a)": a shell would expand it'),
+    ("very many commands", "qemu", "$(" * (1 << 19), 3, "l: it has no command line of QEMU's, expected one"),
+    ("a text that is long", "qemu", "#" * (1 << 20 | 1), 3, "l: it has more than 1048576 bytes"),
 ]
 
 DOMAIN_STOPS = [
