@@ -206,6 +206,8 @@ class Domain:
 
         if element.find("gic") is None:
             self.refuse("features", "it has no <gic version='3'/>, expected one: which GIC there is without it, the host decides")
+        if element.find("acpi") is None:
+            self.machine.append("acpi=off")
         self.others(element, {"gic": gic, "pmu": lambda each: None})
 
     def devices(self, element: Element):

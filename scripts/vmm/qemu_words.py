@@ -51,7 +51,8 @@ MACHINE = [
     MachineWord(("accel", "kernel-irqchip"), Effect.TREE, "what runs the processors, and so what -cpu host and gic-version=host are"),
     MachineWord(("memory-backend",), Effect.HARMLESS, "which -object is RAM: nothing in the devicetree"),
     MachineWord(("confidential-guest-support",), Effect.LAYOUT, "which -object makes the guest a realm"),
-    MachineWord(("acpi", "ras", "usb", "graphics", "mem-merge", "dump-guest-core", "suppress-vmdesc", "x-oem-id", "x-oem-table-id",
+    MachineWord(("acpi",), Effect.TREE, "with firmware: whether the devicetree has the power button"),
+    MachineWord(("ras", "usb", "graphics", "mem-merge", "dump-guest-core", "suppress-vmdesc", "x-oem-id", "x-oem-table-id",
                  "boot", "boot.order", "boot.once", "boot.menu", "boot.strict", "boot.splash", "boot.splash-time", "boot.reboot-timeout",
                  "hmat", "aux-ram-share"), Effect.HARMLESS, "nothing in the devicetree"),
     MachineWord(("dtb-randomness", "dtb-kaslr-seed"), Effect.TREE, "the devicetree differs at each start", "{}=off", OFF),
@@ -335,6 +336,7 @@ WORDS = [
           key="own_dtb"),
     Entry(spelled("accel", "-"), Effect.TREE, "what runs the processors, and so what -cpu host and gic-version=host are"),
     Entry(spelled("enable-kvm", "-"), Effect.TREE, "that KVM runs the processors", takes=Takes.NOTHING),
+    Entry(spelled("no-acpi", "-"), Effect.TREE, "with firmware: the devicetree has the power button", takes=Takes.NOTHING),
     Entry(spelled("numa", "-"), Effect.TREE, "nodes of memory and of processors"),
     Entry(spelled("object", "-"), Effect.TREE, "RAM and the realm are such; others change nothing", read=read_object),
     Entry(spelled("device", "-"), Effect.TREE, "virtio-iommu-pci is in the devicetree; those on PCIe and other buses are not", read=read_device),
@@ -350,7 +352,7 @@ WORDS = [
               "spice k usbdevice vga audio audiodev", "nographic curses portrait full-screen"),
     *harmless("names, clocks and random numbers, which are in no memory", "name uuid rtc icount seed"),
     *harmless("tables and files that are asked of QEMU by the guest, and are not in memory", "fw_cfg smbios acpitable option-rom boot",
-              "no-acpi no-hpet no-fd-bootchk"),
+              "no-hpet no-fd-bootchk"),
     *harmless("a bus or a device that has no node", "tpmdev watchdog watchdog-action", "usb"),
     *harmless("where the host has RAM, and whether its pages are there", "mem-path overcommit", "mem-prealloc"),
     *harmless("how QEMU itself runs", "action chroot compat d D dfilter dump-vmstate gdb L msg pidfile plugin runas run-with sandbox "
@@ -369,6 +371,9 @@ GRAMMAR = Grammar("QEMU", WORDS, one_dash)
 def sort(words: list[str]) -> Sorted:
     found = GRAMMAR.sort(words, True)
     machine = parts(found.said["machine"][0]) if "machine" in found.said else []
+    acpi = [word for word in machine if word.startswith("acpi=") and word.removeprefix("acpi=") not in OFF]
+    if acpi and {"-no-acpi", "--no-acpi"} & set(found.kept):
+        found.faults.append(f"-no-acpi and {shown(acpi[0])} of -machine: their order decides, expected one of them")
     rest = qemu_firmware.of_line(found, machine)
     if machine:
         found.said["machine"] = [joined(rest)]

@@ -126,6 +126,13 @@ OPTIONS = [
     ("firmware of a domain", ["qemu", "--libvirt", "l", *LINE_OF], lambda folder: differs("firmware", folder.read("out/firmware"), FIRMWARE),
      {"l": domain(a=("<kernel>", "<loader readonly='yes' type='pflash' stateless='yes'>fw</loader><kernel>")), "fw": FIRMWARE,
       "tree": tree([(LOW, LOW + 1024 * MIB)], "console=ttyAMA0 a='b c'", count=2)}, "firmware is started"),
+    *[(f"firmware of a domain {name}", ["qemu", "--libvirt", "l", *LINE_OF], lambda folder, word=word: differs("words", recorded(folder)["words"][1],
+       f"virt-11.1,{word}gic-version=3,dtb-randomness=off"), {"l": domain(a=("<kernel>Image</kernel>", "<loader>fw</loader>"), b=("<features>", features),
+         c=("<initrd>initrd</initrd>", ""), d=("<cmdline>console=ttyAMA0 a='b c'</cmdline>", "")), "fw": FIRMWARE,
+        "tree": tree([(LOW, LOW + 1024 * MIB)], count=2)}, "firmware is started")
+      for name, features, word in (("without ACPI", "<features>", "acpi=off,"), ("with ACPI", "<features><acpi/>", ""))],
+    ("firmware without ACPI", [*without(QEMU, "-kernel"), "-bios", "fw", "--qemu", "./stand-in", "--", "-no-acpi"], lambda folder: differs(
+        "words of two dumps", folder.read("said").decode().split("\n").count("-no-acpi"), 2), {"fw": FIRMWARE} | TREES, "firmware is started"),
     ("firmware of kvmtool", [*without(KVMTOOL, "-k"), "-f", "fw"], lambda folder: differs("launch", [first(folder)[key] for key in ("ram", "rec")],
      [[[0x8000_0000, 0x9000_0000]], [{"pc": "0x80000000", "x": ["0x80200000"]}]]) + differs("items", {
          item["name"]: item["at"] for item in first(folder)["item"]}, {"firmware": 0x8000_0000, "dtb": 0x8020_0000}),

@@ -319,6 +319,7 @@ LINE_STOPS = [
     ("slots without maxmem", "qemu", HAND + " -m 1G,slots=2", 2, "slots and no maxmem, expected both"),
     ("maxmem below RAM", "qemu", HAND + " -m 2G,slots=2,maxmem=1G", 2, "maxmem is less than RAM, expected at least 2147483648"),
     ("a small window", "qemu", HAND + " -M highmem-mmio-size=1G", 2, "expected a power of two, at least 512G"),
+    ("ACPI both ways", "qemu", HAND + " -no-acpi -M acpi=on", 2, '-no-acpi and "acpi=on" of -machine: their order decides, expected one of them'),
     ("two realms", "qemu", HAND + " -M confidential-guest-support=a -object rme-guest,id=a -object rme-guest,id=b", 2, "it is the second rme-guest"),
     ("two algorithms of a realm", "qemu", HAND + " -M confidential-guest-support=a -object rme-guest,id=a,measurement-algo=sha256,"
      "measurement-algorithm=sha512", 2, "measurement-algorithm is given twice"),
