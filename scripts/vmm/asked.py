@@ -4,7 +4,7 @@ from __future__ import annotations
 
 from dataclasses import dataclass, field, replace
 
-from outside import files
+from outside import files, parameters
 from outside.faults import Fault, WrongWords
 from outside.texts import shown, visible
 
@@ -104,17 +104,19 @@ def of_realm(about_host: Host, realm: Realm | None) -> Host:
     return replace(about_host, values=about_host.values | {"rpv": value}, notes={"rpv": realm.source})
 
 
-def check_features(vmm: Hypervisor, cpus: list[Word], about_host: Host, is_settled: bool = True):
+def check_features(vmm: Hypervisor, cpus: list[Word], others: Sorted, about_host: Host, is_settled: bool = True):
     """What the words of a processor say, the host's file has to say too; one that is not settled yet may say nothing."""
     wrong = {}
-    for cpu in cpus:
-        for key, fitting in vmm.features(cpu.text).items():
-            if about_host[key] not in fitting and (is_settled or about_host[key] is not None):
-                has = f"has {key} = {host.value_shown(about_host[key])}" if about_host[key] is not None else f"has no {key}"
-                wrong[key] = (f"-cpu: {shown(cpu.text)}, and {about_host.name} {has}, "
-                              f"expected {key} = {' or '.join(map(host.value_shown, fitting))} there, or another processor")
+    said = [(f"-cpu: {shown(cpu.text)}", vmm.features(cpu.text)) for cpu in cpus] + list(others.features.items())
+    for source, key, fitting in [(source, key, fitting) for source, features in said for key, fitting in features.items()]:
+        if about_host[key] not in fitting and (is_settled or about_host[key] is not None):
+            has = f"has {key} = {host.value_shown(about_host[key])}" if about_host[key] is not None else f"has no {key}"
+            fits = " or ".join(host.value_shown(value) for value in fitting if value is not None)
+            wrong[key] = f"{source}, and {about_host.name} {has}, expected {f'{key} = {fits}' if fits else f'no {key}'} there, or another processor"
+    # a number is wrong only because its flag is
+    dependent = {key for flag, key in parameters.FLAGGED if flag in wrong}
     if wrong:
-        raise Fault(*wrong.values())
+        raise Fault(*(line for key, line in wrong.items() if key not in dependent))
 
 
 def values(vmm: Hypervisor, what: Asked) -> dict[str, list]:

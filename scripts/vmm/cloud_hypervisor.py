@@ -103,7 +103,7 @@ def check_realm(machine: str, others: Sorted):
     """No word of it names the realm."""
 
 
-def features(cpu: str) -> dict[str, tuple[int, ...]]:
+def features(cpu: str) -> dict[str, tuple[int | None, ...]]:
     return {}
 
 

@@ -66,8 +66,8 @@ class Hypervisor(Protocol):
     def check_realm(self, machine: str, others: Sorted) -> None:
         """Refuses words of the machine and of the realm that do not fit."""
 
-    def features(self, cpu: str) -> dict[str, tuple[int, ...]]:
-        """What the words of a processor say that the host's file says too: by its keys, the values that fit."""
+    def features(self, cpu: str) -> dict[str, tuple[int | None, ...]]:
+        """What the words of a processor say that the host's file says too: by its keys, the values that fit; None first if no value fits too."""
 
     def processor(self, guest: Guest) -> str | None:
         """What the devicetree says of the processors; None where it is not known."""

@@ -2,6 +2,8 @@
 
 For a devicetree lkvm starts the guest itself. So a dump is given no word by which it would open what a running guest has open.
 """
+import re
+
 from outside.faults import WrongWords
 from outside.texts import shown
 
@@ -41,6 +43,15 @@ def read_realm(found: Sorted, given: Given):
     found.realm = Realm(source, "realm" if given.name == "--realm" else before.name, algorithm, value)
 
 
+def read_vector_length(found: Sorted, given: Given):
+    """The vector length of SVE in bits; with 0 lkvm decides."""
+    if not re.fullmatch("[0-9]{1,4}", given.value) or int(given.value) % 128 or int(given.value) > 2048:
+        found.refuse(given, "expected a multiple of 128 up to 2048")
+    elif int(given.value):
+        found.features = {str(given): {"sve": (True,), "sve_vl": (int(given.value) // 128 - 1,)}}
+    found.keep(given)
+
+
 WORDS = [
     Entry(spelled("-c --cpus"), Effect.LAYOUT, "the processors; of several the last counts", key="smp"),
     Entry(spelled("-m --mem"), Effect.LAYOUT, "the size of RAM; of several the last counts", key="memory"),
@@ -52,7 +63,8 @@ WORDS = [
     Entry(spelled("--realm-pv"), Effect.TREE, "the realm's personalization value: the bytes of the text, with zeros up to 64", read=read_realm),
     Entry(spelled("--restricted_mem --pmu --force-pci --virtio-legacy --no-pvtime --nodefaults --no-dhcp"), Effect.TREE,
           "nodes of the devicetree, or words of its command line", takes=ALONE),
-    Entry(spelled("--sve-vl --irqchip --virtio-transport --console"), Effect.TREE, "nodes of the devicetree, or words of its command line"),
+    Entry(spelled("--sve-vl"), Effect.TREE, "the vector length, which the host's file says too", read=read_vector_length),
+    Entry(spelled("--irqchip --virtio-transport --console"), Effect.TREE, "nodes of the devicetree, or words of its command line"),
     Entry(spelled("-d --disk -n --network --9p --vsock --tty --vfio-pci"), Effect.TREE, "a device, which has a node", read=read_opens),
     Entry(spelled("--rng --balloon"), Effect.TREE, "a device, which has a node", takes=ALONE, read=read_opens),
     Entry(spelled("--name --loglevel --hugetlbfs --dev --vcpu-affinity"), Effect.HARMLESS, "how lkvm itself runs"),

@@ -34,6 +34,8 @@ STUB = (0x580000C0, 0xAA1F03E1, 0xAA1F03E2, 0xAA1F03E3, 0x58000084, 0xD61F0080)
 WINDOWS = (("highmem-redists", 64 * MIB), ("highmem-ecam", 256 * MIB), ("highmem-mmio", 512 * GIB))
 # The words of -cpu that count what is measured: the key of the host's file, and the least that there is.
 COUNTS = {"num-breakpoints": ("num_bps", 1), "num-watchpoints": ("num_wps", 1), "num-pmu-counters": ("pmu_num_ctrs", 0)}
+# The longest vector of SVE, in units of 128 bits.
+MOST_VQ = 16
 # The most memory slots, and the words beside a number of processors.
 MOST_SLOTS = 256
 TOPOLOGY = ("sockets", "dies", "clusters", "modules", "cores", "threads", "books", "drawers")
@@ -267,10 +269,26 @@ def has_gic_3(guest: Guest) -> bool:
     return machine_words(guest.machine.text).get("gic-version") in ("3", "4", "max")
 
 
-def features(cpu: str) -> dict[str, tuple[int, ...]]:
+def vector_lengths(given: dict[str, str]) -> tuple[int | None, ...]:
+    """Returns the values of sve_vl that fit the words of -cpu, with None if a host without SVE fits too; nothing without such words."""
+    if "sve-max-vq" in given:
+        return (number("-cpu: sve-max-vq", given["sve-max-vq"], 1, MOST_VQ) - 1,)
+    is_on = {vl: given[f"sve{(vl + 1) * 128}"] not in OFF for vl in range(MOST_VQ) if given.get(f"sve{(vl + 1) * 128}") in (*OFF, *ON)}
+    if any(is_on.values()):
+        return (max(vl for vl in is_on if is_on[vl]),)
+    # a power of two that is off takes all longer ones away
+    end = min((vl for vl in is_on if vl & (vl + 1) == 0), default=MOST_VQ)
+    return (None, *(vl for vl in range(end) if vl not in is_on)) if is_on else ()
+
+
+def features(cpu: str) -> dict[str, tuple[int | None, ...]]:
     """What the words of -cpu say that the host's file says too. Of breakpoints it is not known whether the realm has one less."""
     given = dict(part.partition("=")[::2] for part in parts(cpu)[1:])
-    found: dict[str, tuple[int, ...]] = {key: (given[key] not in OFF,) for key in ("sve", "pmu") if given.get(key) in (*OFF, *ON)}
+    found: dict[str, tuple[int | None, ...]] = {key: (given[key] not in OFF,) for key in ("sve", "pmu") if given.get(key) in (*OFF, *ON)}
+    if given.get("sve") not in OFF and (lengths := vector_lengths(given)):
+        found["sve_vl"] = lengths
+        if lengths[0] is not None:
+            found["sve"] = (True,)
     for word, (key, least) in COUNTS.items():
         if word in given:
             count = number(f"-cpu: {word}", given[word], least, 256)

@@ -68,7 +68,7 @@ Explained = tuple[str, Effect, str]
 @dataclass
 class Sorted:
     """Words by what they do: those of the layout by their keys; what a dump is given, and what it is not given as it is; what they say of
-    the realm. `opens`: those that change the devicetree and that no dump may be given, since it would open what they name. `faults` has a
+    the realm. `features`: by words, the values that they leave for keys of the host's file. `opens`: those that change the devicetree and that no dump may be given, since it would open what they name. `faults` has a
     line for each that is refused, and `unknown` those that are in no table."""
 
     title: str = ""
@@ -76,6 +76,7 @@ class Sorted:
     kept: list[str] = field(default_factory=list)
     dropped: list[str] = field(default_factory=list)
     realm: Realm | None = None
+    features: dict[str, dict[str, tuple[int | None, ...]]] = field(default_factory=dict)
     opens: list[Given] = field(default_factory=list)
     faults: list[str] = field(default_factory=list)
     unknown: list[Given] = field(default_factory=list)

@@ -122,7 +122,7 @@ class Work:
         self.host = asked.of_realm(host.read(path, rows, is_settled), others.realm)
         self.chosen = ways.chosen(rows, said, self.host.ways, self.host.name)
         self.lists["algo"], self.algo_from = asked.algorithms(said, others.realm, self.chosen["hash"])
-        asked.check_features(vmm, self.lists["cpu"], self.host, is_settled)
+        asked.check_features(vmm, self.lists["cpu"], others, self.host, is_settled)
         self.lists["append"] = words.appends("--append", asked.command_lines(what))
         self.program_line, self.version = "", str(self.host["hypervisor_version"] or "")
         self.rim = Rim("")

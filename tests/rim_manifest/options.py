@@ -170,6 +170,11 @@ OPTIONS = [
      lambda folder: differs("keys", [first(folder).get(key) for key in ("algo", "rpv")], ["sha256", "0f" * 64])),
     ("a processor by its words", replaced(WITH_TREE, "-cpu", "max,pmu=on,sve=off,num-breakpoints=6,num-watchpoints=3,num-pmu-counters=6"),
      lambda folder: []),
+    *[(f"vector lengths: {words} and {vl}", replaced(WITH_TREE, "-cpu", f"max,{words}"), lambda folder, vl=vl: differs("sve_vl", first(folder).get("sve_vl"), vl),
+       changed_host(sve="false" if vl is None else "true", sve_vl=vl and str(vl))) for words, vl in (
+        ("sve256=on,sve128=on,sve512=off", 1), ("sve-max-vq=4", 3), ("sve384=off", 3), ("sve1024=off", 3), ("sve256=off", None), ("sve=off,sve128=on", None))],
+    ("a vector length of lkvm", [*KVMTOOL, "--", "--sve-vl", "512"], lambda folder: differs("sve_vl", first(folder)["sve_vl"], 3),
+     changed_host(sve="true", sve_vl="3") | {"tree": tree([(2 * LOW, 2 * LOW + 256 * MIB)], length=None, **NO_PCIE)}),
     ("words of a dump", [*QEMU, "--qemu", "./stand-in", "--", *OTHERS], given_to_a_dump, TREES),
     ("words of no dump", [*WITH_TREE, "--", *OTHERS], lambda folder: differs("dropped", "-qmp" in recorded(folder)["dropped"], True)),
     ("kernels and initrds", [*WITH_TREE, "--dtb", "with-initrd", "-kernel", "b", "-initrd", "initrd", "--no-initrd"],
