@@ -887,7 +887,7 @@ def installed(program: str) -> list[str]:
     os.symlink(program, os.path.join(here.path, "usr/bin/rim"))
     os.symlink(START, os.path.join(here.path, "link"))
     start, as_it_is = os.path.join(here.path, "usr/bin/rim-match"), (0, 'launch "plain" has the value as it is\n', "")
-    wrong = differs("beside it", here.run("m.toml", "plain", value, start=start, RIM=""), as_it_is)
+    wrong = differs("beside it", here.run("m.toml", "plain", value, start=start, RIM="", RIM_LIBRARY="/none"), as_it_is)
     wrong += differs("a link", here.run("m.toml", "plain", value, start="./link", RIM=program), as_it_is)
     kept = [path for path, _, _ in os.walk(os.path.join(here.path, "usr")) if path.endswith("__pycache__")]
     wrong += differs("what is compiled", kept, [])

@@ -1,4 +1,4 @@
-"""Runs of `rim`, or of its library, over manifests that are written for it."""
+"""Runs of `rim` over manifests that are written for it."""
 from __future__ import annotations
 
 import functools
@@ -8,9 +8,8 @@ from collections.abc import Callable, Hashable, Iterable, Iterator, Sequence
 from dataclasses import dataclass, field
 from typing import Any, NamedTuple
 
-from outside import files, library
+from outside import files
 from outside.faults import Fault
-from outside.library import Library
 from outside.rim import Rim
 from outside.texts import visible
 from outside.measurement import Value
@@ -27,12 +26,6 @@ FAULTS = ("no-memory", "file-unreadable", "file-too-large", "output-failed", "st
 def processors() -> int:
     """How many processors there are for it, of which 64 are used."""
     return min(64, len(os.sched_getaffinity(0)))
-
-
-def library_for(rim: Rim, script: str) -> Library | None:
-    """The library that measures in the place of the program; None where the program does. It is looked for on two processors alone, where both are
-    as quick: on one the program is quicker, and on more, where a run of it has several workers and one of the library one thread."""
-    return library.found(rim.version, script, is_looked_for=processors() == AT_ONCE)
 
 
 class NamedFile(NamedTuple):
@@ -79,29 +72,18 @@ class Outcome:
 @dataclass
 class Runs:
     """The program, the text of the files that launches name, and a folder for manifests. `rim` is started there, or in another one that is
-    named: paths of files are as from there. A library measures in the program's place. Runs may be made by several threads."""
+    named: paths of files are as from there. Runs may be made by several threads."""
 
     rim: Rim
     head: str
     folder: str
     start: str = ""
-    paths: tuple[str, ...] = ()             # of the files in the head
-    library: Library | None = None          # what measures in the place of the program
     workers: int = field(default_factory=lambda: max(1, processors() // AT_ONCE))
     numbers: Iterator[int] = field(default_factory=lambda: itertools.count(1))
 
     def head_of(self, launches: Sequence[Candidate]) -> str:
         """What is before the launches in a manifest."""
         return self.head
-
-    def paths_of(self, launches: Sequence[Candidate]) -> Iterable[str]:
-        """The paths of these files."""
-        return self.paths
-
-    @property
-    def at_once(self) -> int:
-        """How many runs there are at a time. One of the library is of one thread."""
-        return processors() if self.library else AT_ONCE
 
     def text(self, launches: Sequence[Candidate]) -> bytes:
         """A manifest of launches, which are named by their places."""
@@ -119,8 +101,6 @@ class Runs:
 
     def measured(self, launches: Sequence[Candidate]) -> Ran:
         """The report of a manifest of launches."""
-        if self.library:
-            return self.library.measure(self.text(launches), self.paths_of(launches), self.start or self.folder)
         return self.run(launches, lambda path: ["measure", "--workers", str(self.workers), path])
 
     def trace(self, launch: Candidate) -> list[str]:
@@ -135,7 +115,7 @@ class Runs:
             before, line, _ = ran.out.decode("ascii", errors="replace").partition(f" {value.algo} {value.digits}\n")
             return Outcome(int(before.rsplit("\n", 1)[-1]) if line else None, ran.out.count(b" refused "))
         if ran.status < 0 or ran.status > 4 or any(word in ran.said for word in FAULTS):
-            raise Fault(f"{visible(self.library.path if self.library else self.rim.path)} measure: status {ran.status}: {ran.said}")
+            raise Fault(f"{visible(self.rim.path)} measure: status {ran.status}: {ran.said}")
         if len(launches) == 1:
             return Outcome(None, 1)
         half = len(launches) // 2

@@ -11,7 +11,6 @@ from dataclasses import replace
 
 from comparer import report as kept_report
 from finder.progress import Progress
-from finder.runs import library_for
 from finder.search import Planned, Search
 from outside import ending, measurement
 from outside import files as outside_files
@@ -193,7 +192,7 @@ def match(rim: Rim, folder: str, said: Words) -> int:
     held_files.hints = hints_of(said, given, held_files)
     if said.qemu is not None:
         held_files.dumper = dumper_of(said.qemu, folder, path, launch, held_files)
-    runs = program.begun(rim, folder, held_files, library_for(rim, "rim-match"))
+    runs = program.begun(rim, folder, held_files)
     if names := as_they_are(runs, given, given.launches, wanted):
         print(said_of_others(name, names))
         return 0
@@ -207,7 +206,7 @@ def match(rim: Rim, folder: str, said: Words) -> int:
     for each, launches in zip(also, launches_also):
         others += parts.others_of(launches, launch, visible(each.path))
     seconds = math.inf if said.is_far and said.seconds is None else said.seconds or SECONDS
-    search = Search(runs, wanted, said.limit, Progress("rim-match"), time.monotonic() + seconds, waits=True, at_once=runs.at_once)
+    search = Search(runs, wanted, said.limit, Progress("rim-match"), time.monotonic() + seconds, waits=True)
     return answered(said, given, launch, search, runs, lambda: look(runs, search, launch, others, said, kept))
 
 

@@ -2,12 +2,11 @@
 from __future__ import annotations
 
 import hashlib
-from collections.abc import Iterable, Sequence
+from collections.abc import Sequence
 from dataclasses import dataclass, field
 
 from finder import runs
 from finder.runs import Candidate, NamedFile
-from outside.library import Library
 from outside.measurement import Value
 from outside.rim import Rim
 
@@ -29,9 +28,6 @@ class Runs(runs.Runs):
 
     def head_of(self, launches: Sequence[Candidate]) -> str:
         return manifest_head({file.name for each in launches for file in each.files}, self.files)
-
-    def paths_of(self, launches: Sequence[Candidate]) -> Iterable[str]:
-        return {self.files[file.name].path for each in launches for file in each.files}
 
     def candidate(self, change: Change) -> Candidate | None:
         """A launch for a run; None where no manifest may have it. Its table tells it apart from others: what is measured of a launch, `rim` alone
@@ -59,5 +55,5 @@ class Runs(runs.Runs):
         return None if hit is None else given[hit][0]
 
 
-def begun(rim: Rim, folder: str, files: Files, library: Library | None = None) -> Runs:
-    return Runs(rim, "", folder, start=".", library=library, files=files)
+def begun(rim: Rim, folder: str, files: Files) -> Runs:
+    return Runs(rim, "", folder, start=".", files=files)

@@ -11,6 +11,5 @@ cbor        CBOR of somebody else, read strictly
 parameters  the numbers of a realm that are measured, a row each
 measurement a measurement that a machine has, in the forms of tokens
 rim         what `rim` says of an Image and of a devicetree
-library     the library in the place of `rim`, to measure many manifests of the same files
 ending      how a script ends
 """

@@ -435,8 +435,7 @@ def search_of(case: Case | Beginning, axes: Sequence[Axis], others: Sequence[Cas
     """The search for the combination by which a guest, and others, have their values; and what it tries."""
     reached, several = Reached([set() for _ in axes]), [Other(each) for each in others]
     fits = (lambda hit: all(each.fits(hit.origin) for each in several)) if several else None
-    return Search(case.runs, case.value, limit, Progress("rim-manifest"), fits=fits, heard=reached.hear,
-                  at_once=case.runs.at_once), reached
+    return Search(case.runs, case.value, limit, Progress("rim-manifest"), fits=fits, heard=reached.hear), reached
 
 
 def search(cases: list[Case], choices: Choices, limit: int, algo: str | None) -> Outcome:

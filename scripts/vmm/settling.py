@@ -6,7 +6,7 @@ import sys
 from collections.abc import Mapping, Sequence
 from dataclasses import dataclass, replace
 
-from finder.runs import Runs, library_for
+from finder.runs import Runs
 from outside import ending, files, measurement, parameters
 from outside.faults import Fault, WrongWords
 from outside.measurement import Value
@@ -196,8 +196,7 @@ class Maker:
             stubs[places.stub_bytes] = made.put("stub-1", places.stub_bytes, "", "rule stub_bytes")
         blobs = [launch.guest.loaded, *filter(None, [launch.initrd]), *known.values(), *stubs.values(), made.put(ZEROS, b"\0", "", "zeros")]
         contents = {blob.file: settle.content_of(files.read(os.path.join(made.path, blob.file), 1 << 30)) for blob in blobs}
-        paths = tuple(blob.file for blob in blobs)
-        runs = Runs(work.rim, settle.head_of(blobs), made.path, paths=paths, library=library_for(work.rim, "rim-manifest"))
+        runs = Runs(work.rim, settle.head_of(blobs), made.path)
         return Case(self.vmm, work.table, launch, trees, stubs, contents, runs, given.value, given.trace)
 
     def drop(self):

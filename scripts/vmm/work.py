@@ -7,7 +7,7 @@ import shutil
 from collections.abc import Callable
 from dataclasses import replace
 
-from outside import ending, files, library, parameters, programs
+from outside import ending, files, parameters, programs
 from outside.faults import Fault, WrongWords
 from outside.rim import REPORT, Rim, started
 from outside.texts import shown, visible
@@ -310,10 +310,9 @@ def source_name(vmm: Hypervisor, key: str) -> str:
 
 
 def go_to(folder: str):
-    """Has all paths read as from a folder; those of `rim` and of its library are of where it was started. A program's name alone is one of the PATH."""
-    for name in (library.PROGRAM, library.VARIABLE):
-        value = os.environ.get(name, "")
-        if os.sep in value or name == library.VARIABLE and value not in ("", library.NONE):
-            os.environ[name] = os.path.abspath(value)
+    """Has all paths read as from a folder; that of `rim` is of where it was started. A program's name alone is one of the PATH."""
+    program = os.environ.get("RIM", "")
+    if os.sep in program:
+        os.environ["RIM"] = os.path.abspath(program)
     with files.faults_of(folder, "a folder"):
         os.chdir(folder)

@@ -60,10 +60,6 @@ put_programs() {
             [ ! -x "scripts/$path" ] || mode=755
             put "$mode" "scripts/$path" "share/rim/${path#./}"
         done
-        # by which they call the library, where that is installed
-        for path in library/python/rim/*.py; do
-            [ ! -f "$path" ] || put 644 "$path" "share/rim/rim/${path##*/}"
-        done
     fi
 }
 
