@@ -6,6 +6,7 @@
 - Wrong words and faults: the status, the one line and that nothing is written. For speed these are runs of its `main` in a process of
   many; all others start rim-manifest itself. Command lines and domains that no launch can be made of are among them.
 - Command lines as people have them: those of tests/lines, each with the launch that was worked out by hand beside it.
+- Random command lines: `check` has no warning about their manifests.
 - Places: addresses that were worked out by hand from docs/VMM.md, of each hypervisor.
 - Options, names, matrices, more than 64 files, a folder that is moved, an installed rim-manifest.
 - --force: what it replaces, what it keeps, where it refuses, and what a stop at each step leaves.
@@ -16,11 +17,12 @@ PROGRAM reads each manifest that is written, by `check` without a line, and meas
 'N passed, M failed'.
 """
 import concurrent.futures
+import itertools
 import os
 import sys
 from collections.abc import Callable, Iterator
 
-from helpers.tries import PROCESSORS, Outcome, at_a_time, program_of, told
+from helpers.tries import PROCESSORS, Outcome, at_a_time, program_of, told, tried
 from rim_manifest import forced, hostile, lines, options, places, stops, tables, whole
 
 # The tries that are a function each, which is given the program.
@@ -31,7 +33,8 @@ LOOKS = (lines.as_a_shell, lines.known, whole.pasted, whole.one_step, whole.expl
 
 def all_stops() -> list[Outcome]:
     with concurrent.futures.ProcessPoolExecutor(PROCESSORS) as pool:
-        return [(each[0], wrong) for each, wrong in zip(stops.STOPS, pool.map(stops.stops, range(len(stops.STOPS)), chunksize=8))]
+        found = [(each[0], wrong) for each, wrong in zip(stops.STOPS, pool.map(stops.stops, range(len(stops.STOPS)), chunksize=8))]
+        return found + [(f"random lines, {seed}", wrong) for seed, wrong in zip(lines.RANDOM, pool.map(tried, itertools.repeat(lines.usual), lines.RANDOM))]
 
 
 def all_tries(program: str) -> Iterator[tuple[str, Callable[[], list[str]]]]:

@@ -7,9 +7,9 @@ import subprocess
 import tomllib
 
 from helpers import MIB, SECONDS
-from helpers.files import tree
+from helpers.files import image, tree
 from helpers.folders import Folder
-from helpers.guests import HAND, INITRD, LINES, NO_PCIE, host
+from helpers.guests import HAND, INITRD, LINES, LOW, NO_PCIE, host
 from helpers.tries import differs
 from outside.faults import Fault
 from vmm.lines import Text, of_file, read
@@ -61,6 +61,53 @@ def known(_program: str):
     with Folder({"l": f"cd other\n{HAND}".encode()}) as folder:
         wrong += differs("cd with -C", of_file(os.path.join(folder.path, "l"), "qemu-system-aarch64", "QEMU", True), HAND.split()[1:])
     return wrong
+
+
+# What random lines are drawn of: sizes of RAM by their words, kernels, lengths of initrds, firmware, and rows of which up to two are drawn.
+SIZES = {"96": 96 * MIB, "128M": 128 * MIB, "255": 255 * MIB, "1000M": 1000 * MIB, "1G": 1024 * MIB, "1536": 1536 * MIB, "3071": 3071 * MIB,
+         "2G": 2048 * MIB, "3G": 3072 * MIB, "4G": 4096 * MIB, "5120": 5120 * MIB, "7G": 7168 * MIB, "15G": 15360 * MIB, "31G": 31744 * MIB}
+KERNELS = {"Image": (2 * MIB, 0), "big": (40 * MIB, 4096), "old": (MIB, 0x80000)}
+INITRDS = {"i": 9001, "j": 2 * MIB, "k": 5 * MIB + 17}
+FIRMWARE = {"f": 9001, "g": 2 * MIB}
+ROWS = [["--row", "host_pages=64k"], ["--row", "ram=each"], ["--order", "kind"], ["--kernel-pages", "image_size"], ["--dtb-pages", "used"],
+        ["--row", "rec_rule=all"], ["--stub", "measured"]]
+
+
+def drawn(draw: random.Random) -> tuple[list[str], list[str], bytes]:
+    """Returns rows, the words of a line of QEMU, and its devicetree."""
+    memory, count, kernel, initrd = draw.choice([*SIZES]), draw.choice((1, 2, 3, 8)), draw.choice([*KERNELS]), draw.choice([None, *INITRDS])
+    image_size, text_offset = KERNELS[kernel]
+    base = LOW + (2 * MIB if text_offset < 4096 else 0)
+    at = -(-max(LOW + min(SIZES[memory] // 2, 128 * MIB), base + text_offset + image_size) // 4096) * 4096
+    words = ["-M", "virt,gic-version=3,dtb-randomness=off", "-cpu", "max", "-m", memory, "-smp", str(count)]
+    rows = [word for row in draw.sample(ROWS, draw.randrange(3)) for word in row]
+    if draw.random() < 0.25:
+        rows += draw.choice(([], ["--row", "firmware_ram=whole"]))
+        return rows, [*words, "-bios", draw.choice([*FIRMWARE])], tree([(LOW, LOW + SIZES[memory])], count=count)
+    place = (at, at + INITRDS[initrd]) if initrd else None
+    return rows, [*words, "-kernel", kernel] + ["-initrd", initrd] * bool(initrd), tree([(LOW, LOW + SIZES[memory])], initrd=place, count=count)
+
+
+RANDOM = range(8)
+
+
+def usual(seed: int) -> list[str]:
+    """`rim check` gives no warning about the manifests of 25 right lines, of which few are refused. This is for a process of its own."""
+    files = {name: image(*rest) for name, rest in KERNELS.items()} | {name: (b"070701" * length)[:length] for name, length in INITRDS.items()}
+    files |= {name: bytes(n * 7 % 251 for n in range(length)) for name, length in FIRMWARE.items()}
+    wrong, draw, count = [], random.Random(seed), 0
+    with Folder(files) as folder:
+        for _ in range(25):
+            rows, words, made = drawn(draw)
+            folder.put("tree", made)
+            status, _, _ = folder.run_here("qemu", "--host", "host.toml", "--out", "out", "--force", "--dtb", "tree", *rows, "--",
+                                           "qemu-system-aarch64", *words)
+            if status == 0:
+                count += 1
+                ran = subprocess.run([os.environ["RIM"], "check", "manifest.toml"], cwd=os.path.join(folder.path, "out"), capture_output=True, timeout=SECONDS,
+                                     check=False)
+                wrong += differs(" ".join([*rows, "--", *words]), (ran.returncode, ran.stdout + ran.stderr), (0, b""))
+    return wrong + differs("many are made", count > 20, True)
 
 
 def line(program: str, name: str):

@@ -3,7 +3,8 @@ use crate::chosen::{InitrdPlace, Seed};
 use crate::firmware::firmware_region;
 use crate::items::{number_of, placed_bytes};
 use crate::memory::ram_ranges;
-use crate::ranges::{Difference, first_difference, merged};
+use crate::ram::is_made_for_items;
+use crate::ranges::{Difference, first_difference, is_within, merged};
 use crate::seen::{SeenTree, SeenTrees, TreeFacts, TreeForm};
 use crate::unusual::Unusual;
 use fdt_tree::FdtFault;
@@ -188,7 +189,8 @@ fn push_facts<'a>(
     Ok(())
 }
 
-/// Where its memory nodes have other addresses than the launch has RAM. A region that is there for firmware alone does not count.
+/// Where its memory nodes have other addresses than the launch has RAM. A region that is there for firmware alone does not count. Regions
+/// that are made for items are only parts of the memory.
 fn memory_fault(
     alloc: Global,
     accepted: &AcceptedLaunch<'_>,
@@ -199,6 +201,9 @@ fn memory_fault(
     };
     let apart = firmware_region(accepted);
     let expected = merged(alloc, ram_ranges(alloc, accepted.launch().ram(), apart)?)?;
+    if is_made_for_items(accepted) && is_within(&expected, found) {
+        return Ok(None);
+    }
     Ok(first_difference(found, &expected).map(|difference| TreeFault::Memory(difference)))
 }
 

@@ -1,9 +1,10 @@
 //! RAM that is rarely meant: a region that is not of whole MiB, and an end where a size was meant.
 use crate::firmware::firmware_region;
 use crate::unusual::Unusual;
+use ipa_layout::PlacedItem;
 use refusal::NoMemory;
 use rim_accepted::AcceptedLaunch;
-use rim_launch::{Launch, Region};
+use rim_launch::{Launch, Region, Role};
 use rmm_model::protected_end;
 use shown_text::Remark;
 use std::fmt;
@@ -12,6 +13,12 @@ use std::fmt::Write;
 const MIB: u64 = 1 << 20;
 
 const GIB: u64 = 1 << 30;
+
+/// Size of a page, in bytes.
+const PAGE: u64 = 4096;
+
+/// Size of the largest page of a host, in bytes.
+const LARGEST_HOST_PAGE: u64 = 65_536;
 
 /// The lowest end that is taken for a size: 2 GiB.
 const LEAST_SIZE: u64 = 2 * GIB;
@@ -68,14 +75,15 @@ impl fmt::Display for Size {
     }
 }
 
-/// Adds what is rarely meant of the regions of a launch.
+/// Adds what is rarely meant of the regions of a launch. Regions that are made for items have the sizes of these.
 pub(crate) fn find_in_ram<'a>(
     found: &mut Vec<Unusual<'a>>,
     accepted: &AcceptedLaunch<'_>,
 ) -> Result<(), NoMemory> {
     let apart = firmware_region(accepted);
+    let of_items = is_made_for_items(accepted);
     for (number, region) in accepted.launch().ram().iter().copied().enumerate() {
-        if size_of(&region) % MIB != 0 && apart != Some(region) {
+        if size_of(&region) % MIB != 0 && apart != Some(region) && !of_items {
             found.push(Unusual::Ram(UnusualRam::Uneven { number, region }))?;
         }
     }
@@ -85,21 +93,58 @@ pub(crate) fn find_in_ram<'a>(
     Ok(())
 }
 
+/// Returns whether there are several regions, each made for an item in whole pages of the host. A region at the end of another one is for
+/// the zeros after a kernel.
+pub(crate) fn is_made_for_items(accepted: &AcceptedLaunch<'_>) -> bool {
+    let ram = accepted.launch().ram();
+    ram.len() > 1
+        && ram.iter().all(|region| {
+            is_for_item(accepted, region) || ram.iter().any(|other| other.end == region.base)
+        })
+}
+
+/// Returns whether a region is that of some item. That of a kernel may go on after its bytes.
+fn is_for_item(accepted: &AcceptedLaunch<'_>, region: &Region) -> bool {
+    accepted
+        .launch()
+        .items()
+        .iter()
+        .zip(accepted.placed().items().iter())
+        .any(|(item, placed)| {
+            is_near(region.base, placed.address)
+                && (item.has_role(Role::Kernel) || is_near(end_of(placed), region.end))
+        })
+}
+
+/// The end of an item's last page.
+fn end_of(item: &PlacedItem) -> u64 {
+    let start = item.address.saturating_sub(item.lead);
+    start.saturating_add(item.pages.saturating_mul(PAGE))
+}
+
+/// Returns whether an address is another one or after it in a page of the host.
+fn is_near(low: u64, high: u64) -> bool {
+    low <= high && high.saturating_sub(low) < LARGEST_HOST_PAGE
+}
+
 /// How many bytes a region has.
 fn size_of(region: &Region) -> u64 {
     region.end - region.base
 }
 
 /// The first region, where its end was probably meant as its size: the end is 2 GiB or a higher power of two, the base is
-/// not 0, and the size is no power of two. Nothing is said where another region begins at that end, or where a region of
-/// the size that was probably meant would end above the protected half.
+/// not 0, and the size is neither a power of two nor a whole number of GiB, such as the 3 GiB from 1 GiB on. Nothing is said
+/// where another region begins at that end, or where a region of the size that was probably meant would end above the
+/// protected half.
 fn size_as_end(launch: &Launch) -> Option<UnusualRam> {
     let region = *launch.ram().first()?;
     let expected = region.base + region.end;
     let is_size = region.end >= LEAST_SIZE && region.end.is_power_of_two() && region.base != 0;
     let goes_on = launch.ram().iter().any(|other| other.base == region.end);
     let fits = expected <= protected_end(launch.config().s2sz);
-    if is_size && !size_of(&region).is_power_of_two() && !goes_on && fits {
+    let size = size_of(&region);
+    let is_usual = size.is_power_of_two() || size % GIB == 0;
+    if is_size && !is_usual && !goes_on && fits {
         Some(UnusualRam::SizeAsEnd { region, expected })
     } else {
         None

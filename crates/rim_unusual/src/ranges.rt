@@ -59,6 +59,15 @@ fn add(all: &mut Vec<IpaRange>, range: IpaRange) -> Result<(), NoMemory> {
     Ok(())
 }
 
+/// Returns whether each range is within one of others.
+pub(crate) fn is_within(ranges: &[IpaRange], others: &[IpaRange]) -> bool {
+    ranges.iter().all(|range| {
+        others
+            .iter()
+            .any(|other| other.base <= range.base && range.end <= other.end)
+    })
+}
+
 /// Where two sets of addresses differ first, if they do, each as ranges in rising order that do not touch.
 pub(crate) fn first_difference(found: &[IpaRange], expected: &[IpaRange]) -> Option<Difference> {
     let same = found

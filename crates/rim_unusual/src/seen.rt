@@ -1,5 +1,5 @@
 //! What devicetrees say, found once for all launches whose devicetrees have the same form.
-use crate::cells::value_in;
+use crate::cells::{Cells, value_in};
 use crate::chosen::{InitrdPlace, SEEDS};
 use crate::devicetree::TreeFault;
 use crate::memory::memory_ranges;
@@ -89,8 +89,46 @@ impl SeenTrees {
 fn look_at(alloc: Global, form: TreeForm, bytes: &[u8]) -> Result<SeenTree, NoMemory> {
     match fdt_tree::read(alloc, bytes) {
         Ok(tree) => Ok(SeenTree::Read(facts_of(alloc, form, &tree, bytes.len())?)),
-        Err(fault) => Ok(SeenTree::Unreadable(fault.own_fault()?)),
+        Err(fault) => look_at_cut(alloc, form, bytes, fault.own_fault()?),
     }
+}
+
+/// Looks at a devicetree that cannot be read as it is. It can if it is cut off after its last block, as QEMU's is where only its used
+/// pages are measured.
+fn look_at_cut(
+    alloc: Global,
+    form: TreeForm,
+    bytes: &[u8],
+    fault: FdtFault,
+) -> Result<SeenTree, NoMemory> {
+    let Some(shorter) = with_own_size(alloc, bytes)? else {
+        return Ok(SeenTree::Unreadable(fault));
+    };
+    match fdt_tree::read(alloc, &shorter) {
+        Ok(tree) => Ok(SeenTree::Read(facts_of(alloc, form, &tree, bytes.len())?)),
+        Err(other) => {
+            other.own_fault()?;
+            Ok(SeenTree::Unreadable(fault))
+        }
+    }
+}
+
+/// Returns the bytes of a devicetree with their number as its `totalsize`, or `None` where that is not lower.
+fn with_own_size(alloc: Global, bytes: &[u8]) -> Result<Option<Vec<u8>>, NoMemory> {
+    let (Some(magic), Some(total), Some(rest)) =
+        (bytes.get(..4), bytes.get(4..8), bytes.get(8..))
+    else {
+        return Ok(None);
+    };
+    let size = bytes.len() as u64;
+    let is_cut = Cells::One.read(total).is_some_and(|total| size < total);
+    if !is_cut {
+        return Ok(None);
+    }
+    let mut shorter = Vec::from_slice(alloc, magic)?;
+    shorter.extend_from_slice(&(size as u32).to_be_bytes())?;
+    shorter.extend_from_slice(rest)?;
+    Ok(Some(shorter))
 }
 
 /// What a devicetree says that has this many bytes.
