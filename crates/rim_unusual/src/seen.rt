@@ -115,8 +115,7 @@ fn look_at_cut(
 
 /// Returns the bytes of a devicetree with their number as its `totalsize`, or `None` where that is not lower.
 fn with_own_size(alloc: Global, bytes: &[u8]) -> Result<Option<Vec<u8>>, NoMemory> {
-    let (Some(magic), Some(total), Some(rest)) =
-        (bytes.get(..4), bytes.get(4..8), bytes.get(8..))
+    let (Some(magic), Some(total), Some(rest)) = (bytes.get(..4), bytes.get(4..8), bytes.get(8..))
     else {
         return Ok(None);
     };
