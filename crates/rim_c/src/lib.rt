@@ -99,7 +99,7 @@ pub extern "C" fn rim_proved_rim<'a>(
     out: &mut [u8],
     length: &mut usize,
 ) -> u32
-    ensures { EndsWithRim manifest.now files.now launch.now algorithm.new
+    ensures { EndsWithRim manifest.now files.now launch.now algorithm.old algorithm.new
         (record { old = out.old; new = out.new; before = length.old; after = length.new }) result }
 {
     launch_rim_of(

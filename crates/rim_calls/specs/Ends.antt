@@ -89,12 +89,14 @@ pub record IsRimOf (held : List ℕ → Known) (bytes name : List ℕ) (number :
   pub algorithm : number ≡ algo_value rim.algo
   pub well : status ≡ 0
 
--- a call for the measurement of the launch of a name ends with it, or as it is refused
-abbrev pub EndsWithRim : File → List File → List ℕ → ℕ → Room → ℕ → Type 0
-EndsWithRim manifest files name number room code =
-    HasNoText name room code
-    ⊎ EndsBy (IsRimOf (held_in manifest files) manifest.bytes.now name number)
-    (RefusesManifest (RefusesRim (held_in manifest files) name) (held_in manifest files manifest.path.now)) manifest.path.now room code
+-- a call for the measurement of the launch of a name ends with it in the room, and with the number of its algorithm; or the number is as it was
+-- before, and the room is too short, the call is refused, or the name or the manifest's path is not UTF-8
+abbrev pub EndsWithRim : File → List File → List ℕ → (before after : ℕ) → Room → ℕ → Type 0
+EndsWithRim manifest files name before after room code =
+    IsAnswered (IsRimOf (held_in manifest files) manifest.bytes.now name after) room code
+    ⊎ ((after ≡ before) × (IsTooLong (λ text status. (number : ℕ) × IsRimOf (held_in manifest files) manifest.bytes.now name number text status) room code
+    ⊎ (IsRefused (RefusesManifest (RefusesRim (held_in manifest files) name) (held_in manifest files manifest.path.now)) room code
+    ⊎ (HasNoText name room code ⊎ HasNoText manifest.path.now room code))))
 
 -- the paths of the files that a manifest names, each with a zero byte after it
 abbrev pub paths_text : ReleaseData → List ℕ

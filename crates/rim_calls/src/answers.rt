@@ -116,7 +116,7 @@ pub fn launch_rim_of<'a>(
     out: &mut [u8],
     said: &mut usize,
 ) -> u32
-    ensures { EndsWithRim manifest.now files.now launch.now number.new (record {
+    ensures { EndsWithRim manifest.now files.now launch.now number.old number.new (record {
       old = out.old;
       new = out.new;
       before = said.old;
@@ -135,8 +135,11 @@ pub fn launch_rim_of<'a>(
     };
     match launch_rim(alloc, lanes, &mut held, path, launch) {
         Ok(found) => {
+            if !put(digest(found.algo, &found.rim), out, said) {
+                return ROOM;
+            }
             *number = number_of(found.algo);
-            code_if(put(digest(found.algo, &found.rim), out, said))
+            0
         }
         Err(fault) => code_of(fault),
     }

@@ -283,11 +283,16 @@ abbrev pub IsWritten : Option (List ℕ) → (List ℕ → Known) → Option (Li
 IsWritten None left before after text = Appends before after text
 IsWritten (Some path) left before after text = (after ≡ before) × IfFile (left path) (λ bytes. bytes ≡ text)
 
--- it is done: its text was written, and the status is its own
+-- every file is as it was, except the one that the request names for its output
+abbrev pub KeepsOthers : Option (List ℕ) → (held left : List ℕ → Known) → Type 0
+KeepsOthers output held left = (path : List ℕ) → output ≢ Some path → left path ≡ held path
+
+-- the request is done: its text was written, no other file changed, and the status is its own
 pub record IsDone (request : Request) (held left : List ℕ → Known) (before after : Option (List ℕ)) (status : ℕ) : Type 0 where
   pub text : List ℕ
   pub made : IsMade request held text status
   pub written : IsWritten (output_of request) left before after text
+  pub others : KeepsOthers (output_of request) held left
 
 -- it is refused with a fault that holds, and the status is that fault's
 pub record IsRefused (request : Request) (held : List ℕ → Known) (answer : ℕ) : Type 0 where
@@ -295,13 +300,14 @@ pub record IsRefused (request : Request) (held : List ℕ → Known) (answer : �
   pub refused : Refuses held request.ask (held request.path.now) fault
   pub status : answer ≡ status_of fault
 
--- it was made, with the status 0 or 1, or 3 of a check, but could not be written
-pub record IsUnwritten (request : Request) (held : List ℕ → Known) : Type 0 where
+-- it was made, with the status 0 or 1, or 3 of a check, but could not be written; every file is as it was
+pub record IsUnwritten (request : Request) (held left : List ℕ → Known) : Type 0 where
   pub text : List ℕ
   pub status : ℕ
   pub made : IsMade request held text status
+  pub kept : left ≡ held
 
--- it ends with 3: it is refused, and the output is as it was, or could not be written, or is done
+-- it ends with 3: it is refused, and the output and every file are as they were; or it could not be written; or it is done
 abbrev pub EndsWithFault : Request → (held left : List ℕ → Known) → Type 0 → Option (List ℕ) → Option (List ℕ) → ℕ → Type 0
 EndsWithFault request held left Same before after status =
-    (IsRefused request held status × Same) ⊎ (IsUnwritten request held ⊎ IsDone request held left before after status)
+    (IsRefused request held status × (Same × (left ≡ held))) ⊎ (IsUnwritten request held left ⊎ IsDone request held left before after status)

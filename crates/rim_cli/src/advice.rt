@@ -1,5 +1,7 @@
 //! What is said after a fault or a refusal to a person at a terminal, or to one who asks for it: why, as `rim check` says it, or which file it
 //! is about. That it is true is tested alone.
+ghost use Rattle.std.specs.Prelude.{◌≡◌};
+
 use crate::aside::Aside;
 use crate::checking::{check_path, failure_text};
 use crate::program::Terminals;
@@ -34,7 +36,9 @@ pub fn advise<O: Opener, E: Write>(
     aside: &Aside,
     opener: &mut O,
     err: &mut E,
-) {
+)
+    ensures stays { O.held opener.new ≡ O.held opener.old }
+{
     if !is_explained(request, terminals) || fault.status() != FAULT {
         return;
     }
@@ -125,7 +129,9 @@ fn advice<O: Opener>(
     opener: &mut O,
     request: &Request,
     fault: Fault,
-) -> Result<Vec<u8>, NoMemory> {
+) -> Result<Vec<u8>, NoMemory>
+    ensures stays { O.held opener.new ≡ O.held opener.old }
+{
     let path = request.path;
     match request.ask {
         Ask::Manifest(_) => fault_advice(alloc, opener, path, fault),
@@ -144,7 +150,9 @@ fn fault_advice<O: Opener>(
     opener: &mut O,
     manifest: &str,
     fault: Fault,
-) -> Result<Vec<u8>, NoMemory> {
+) -> Result<Vec<u8>, NoMemory>
+    ensures stays { O.held opener.new ≡ O.held opener.old }
+{
     if let Err(why) = read_or_why(alloc, opener, manifest) {
         return unread_advice(alloc, manifest, why);
     }
@@ -166,7 +174,9 @@ fn launch_advice<O: Opener>(
     opener: &mut O,
     manifest: &str,
     launch: &str,
-) -> Result<Vec<u8>, NoMemory> {
+) -> Result<Vec<u8>, NoMemory>
+    ensures stays { O.held opener.new ≡ O.held opener.old }
+{
     let Ok(bytes) = read_or_why(alloc, opener, manifest) else {
         return Ok(Vec::new(alloc));
     };
@@ -198,7 +208,9 @@ fn file_advice<O: Opener>(
     opener: &mut O,
     path: &str,
     fault: Fault,
-) -> Result<Vec<u8>, NoMemory> {
+) -> Result<Vec<u8>, NoMemory>
+    ensures stays { O.held opener.new ≡ O.held opener.old }
+{
     let bytes = match read_or_why(alloc, opener, path) {
         Ok(bytes) => bytes,
         Err(why) => return unread_advice(alloc, path, why),

@@ -58,6 +58,7 @@ pub fn answer_to<R: Threads + Wait + Sync, G: Gate + Sync, O: Opener>(
     ensures refused { IfErr result (Refuses (O.held opener.old) request.entry.ask
         (O.held opener.old request.entry.path.now)) }
     ensures status { IfOk result (λ a. (a.status ≤ 1) ⊎ (a.status ≡ 3)) }
+    ensures stays { O.held opener.new ≡ O.held opener.old }
 {
     let path = request.path;
     match request.ask {
@@ -83,6 +84,7 @@ pub fn answer_alone<G: Gate, O: Opener>(
     ensures refused { IfErr result (Refuses (O.held opener.old) request.entry.ask
         (O.held opener.old request.entry.path.now)) }
     ensures status { IfOk result (λ a. (a.status ≤ 1) ⊎ (a.status ≡ 3)) }
+    ensures stays { O.held opener.new ≡ O.held opener.old }
 {
     let path = request.path;
     match request.ask {
@@ -109,6 +111,7 @@ fn manifest_answer<G: Gate, O: Opener>(
     ensures refused { IfErr result
         (Refuses (O.held opener.old) (Ask.Manifest ask) (O.held opener.old path.now)) }
     ensures status { IfOk result (λ a. (a.status ≤ 1) ⊎ (a.status ≡ 3)) }
+    ensures stays { O.held opener.new ≡ O.held opener.old }
 {
     match ask {
         ManifestAsk::Measure { format, .. } => {
@@ -137,6 +140,7 @@ fn launch_answer<O: Opener>(
     ensures refused { IfErr result (Refuses (O.held opener.old) (Ask.Launch launch.entry ask)
         (O.held opener.old path.now)) }
     ensures status { IfOk result (λ a. a.status ≤ 1) }
+    ensures stays { O.held opener.new ≡ O.held opener.old }
 {
     match ask {
         LaunchAsk::List => list(alloc, lanes, opener, path, launch, aside),
@@ -159,6 +163,7 @@ fn file_answer<O: Opener>(
     ensures refused { IfErr result
         (Refuses (O.held opener.old) (Ask.File ask) (O.held opener.old path.now)) }
     ensures status { IfOk result (λ a. a.status ≤ 1) }
+    ensures stays { O.held opener.new ≡ O.held opener.old }
 {
     match ask {
         FileAsk::Replay => replay(alloc, opener, path),
@@ -195,6 +200,7 @@ fn measure<R: Threads + Wait + Sync, G: Gate + Sync, O: Opener>(
     ensures refused { IfErr result
         (RefusesManifest (RefusesReport (O.held opener.old)) (O.held opener.old path.now)) }
     ensures status { IfOk result (λ a. a.status ≤ 1) }
+    ensures stays { O.held opener.new ≡ O.held opener.old }
 {
     let text = read_file(alloc, opener, path)?;
     let release = release_in(alloc, text.as_slice())?;
@@ -219,6 +225,7 @@ fn measure_alone<O: Opener>(
     ensures refused { IfErr result
         (RefusesManifest (RefusesReport (O.held opener.old)) (O.held opener.old path.now)) }
     ensures status { IfOk result (λ a. a.status ≤ 1) }
+    ensures stays { O.held opener.new ≡ O.held opener.old }
 {
     let text = read_file(alloc, opener, path)?;
     let release = release_in(alloc, text.as_slice())?;
@@ -352,6 +359,7 @@ fn list<O: Opener>(
     ensures refused { IfErr result (RefusesManifest (RefusesListing (O.held opener.old) launch.now)
         (O.held opener.old path.now)) }
     ensures status { IfOk result (λ a. a.status ≤ 1) }
+    ensures stays { O.held opener.new ≡ O.held opener.old }
 {
     let found = read_launch(alloc, opener, path, launch)?;
     match listing_or_refusal(alloc, lanes, found.loaded(), aside) {
@@ -375,6 +383,7 @@ fn trace<O: Opener>(
     ensures refused { IfErr result (RefusesManifest (RefusesListing (O.held opener.old) launch.now)
         (O.held opener.old path.now)) }
     ensures status { IfOk result (λ a. a.status ≤ 1) }
+    ensures stays { O.held opener.new ≡ O.held opener.old }
 {
     let found = read_launch(alloc, opener, path, launch)?;
     match trace_or_refusal(alloc, lanes, found.loaded(), aside) {
@@ -397,6 +406,7 @@ fn dtb<O: Opener>(
     ensures refused { IfErr result
         (RefusesManifest (RefusesDtb (O.held opener.old) launch.now) (O.held opener.old path.now)) }
     ensures status { IfOk result (λ a. a.status ≤ 1) }
+    ensures stays { O.held opener.new ≡ O.held opener.old }
 {
     let found = read_launch(alloc, opener, path, launch)?;
     match placed_devicetree(alloc, found.loaded(), aside) {
@@ -419,6 +429,7 @@ fn audit<G: Gate, O: Opener>(
     ensures refused { IfErr result
         (RefusesManifest (RefusesAudit (O.held opener.old)) (O.held opener.old path.now)) }
     ensures status { IfOk result (λ a. a.status ≤ 1) }
+    ensures stays { O.held opener.new ≡ O.held opener.old }
 {
     let release = read_release(alloc, opener, path)?;
     let files = read_files(alloc, opener, &release)?;
@@ -445,6 +456,7 @@ fn image<O: Opener>(alloc: Global, opener: &mut O, path: &str) -> Result<Answer,
         (λ bytes. (image_answer_of bytes ≡ Ok a.text.items) × (a.status ≡ 0))) }
     ensures refused { IfErr result (RefusesImage (O.held opener.old path.now)) }
     ensures status { IfOk result (λ a. a.status ≤ 1) }
+    ensures stays { O.held opener.new ≡ O.held opener.old }
 {
     let bytes = read_file(alloc, opener, path)?;
     let text = show_image(alloc, bytes.as_slice()).map_err(Fault::Show)?;
@@ -457,6 +469,7 @@ fn fdt<O: Opener>(alloc: Global, opener: &mut O, path: &str) -> Result<Answer, F
         (λ bytes. ShowsDevicetree bytes a.text.items × (a.status ≡ 0))) }
     ensures refused { IfErr result (RefusesFdt (O.held opener.old path.now)) }
     ensures status { IfOk result (λ a. a.status ≤ 1) }
+    ensures stays { O.held opener.new ≡ O.held opener.old }
 {
     let bytes = read_file(alloc, opener, path)?;
     let text = show_fdt(alloc, bytes.as_slice()).map_err(Fault::Show)?;

@@ -40,6 +40,7 @@ pub fn check<O: Opener>(
         a.status)) }
     ensures refused { IfErr result (IsFileFault (O.held opener.old path.now)) }
     ensures status { IfOk result (λ a. (a.status ≤ 1) ⊎ (a.status ≡ 3)) }
+    ensures stays { O.held opener.new ≡ O.held opener.old }
 {
     let found = check_path(alloc, opener, path, quiet, mark)?;
     answer_in(alloc, found, format)
@@ -88,6 +89,7 @@ pub(crate) fn check_path<O: Opener>(
         (λ bytes. Finds (O.held opener.old) quiet path.now bytes (findings_of c) c.status)) }
     ensures refused { IfErr result (IsFileFault (O.held opener.old path.now)) }
     ensures status { IfOk result (λ c. (c.status ≤ 1) ⊎ (c.status ≡ 3)) }
+    ensures stays { O.held opener.new ≡ O.held opener.old }
 {
     let bytes = read_file(alloc, opener, path)?;
     match check_manifest(alloc, path, bytes.as_slice()) {
@@ -126,6 +128,7 @@ fn check_release<O: Opener>(
         (λ c. IsReleaseCheck (O.held opener.old) quiet release.now (findings_of c) c.status) }
     ensures refused { IfErr result (λ e. e ≡ Fault.NoMemory) }
     ensures status { IfOk result (λ c. (c.status ≤ 1) ⊎ (c.status ≡ 3)) }
+    ensures stays { O.held opener.new ≡ O.held opener.old }
 {
     let found = find_files(alloc, opener, release)?;
     if !found.unread.is_empty() {
@@ -184,6 +187,7 @@ fn find_files<O: Opener>(
     ensures found { IfOk result (λ f. AreFound (O.held opener.old) release.now.paths
         (map (λ file. file.items) f.files.items) f.unread.items) }
     ensures fault { IfErr result (λ e. e ≡ Fault.NoMemory) }
+    ensures stays { O.held opener.new ≡ O.held opener.old }
 {
     let mut files = Vec::new(alloc);
     let mut unread = Vec::new(alloc);

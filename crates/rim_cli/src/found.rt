@@ -74,6 +74,7 @@ pub(crate) fn read_launch<O: Opener>(
         (map (λ file. file.items) f.files.items)) }
     ensures refused { IfErr result (RefusesManifest (RefusesListing (O.held opener.old) launch.now)
         (O.held opener.old path.now)) }
+    ensures stays { O.held opener.new ≡ O.held opener.old }
 {
     let release = read_release(alloc, opener, path)?;
     let Some(number) = release.launch_named(launch) else {

@@ -34,6 +34,7 @@ pub fn map<O: Opener>(
     ensures refused { IfErr result (RefusesManifest (RefusesListing (O.held opener.old) launch.now)
         (O.held opener.old path.now)) }
     ensures status { IfOk result (λ a. a.status ≤ 1) }
+    ensures stays { O.held opener.new ≡ O.held opener.old }
 {
     let found = read_launch(alloc, opener, path, launch)?;
     match map_of(alloc, &found.release, found.loaded(), format) {

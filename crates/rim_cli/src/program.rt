@@ -4,7 +4,7 @@ ghost use Rattle.std.specs.Io.KnownBytes.{Appends};
 ghost use Rattle.std.specs.Str.{bytes_eq};
 ghost use Rattle.clap.specs.Words.{kind_of, takes};
 ghost use Rattle.rim_words.specs.Command.{AsksForBytes, AsksForHelp, HasCrew, IsMistaken, is_asked, rim, verb_of};
-ghost use Rattle.rim_cli.specs.Done.{AsksFor, EndsWithFault, IsDone, IsWritten, output_of};
+ghost use Rattle.rim_cli.specs.Done.{AsksFor, EndsWithFault, IsDone, IsWritten, KeepsOthers, output_of};
 ghost use Rattle.std.specs.IoError.{error_kind};
 ghost use Rattle.rim_files.specs.Status.{status_of, unreadable_status};
 
@@ -45,6 +45,8 @@ pub struct Terminals {
 /// written, and is that of a check which found the manifest or a file of it at fault, or too many pages; or that `out` is a terminal, and is
 /// to be bytes that are no text. Such bytes are never written to a terminal. 2 is not answered. After 2 and 4 `out`
 /// is as it was. No clause says what is on `err`, since writing there may fail and changes no status.
+///
+/// No file changes except the one that the words name for the output, and that one only if the text was written.
 pub fn run<R: Threads + Wait + Sync, G: Gate + Sync, S: AsStr, O: Opener, W: Write, E: Write>(
     rt: &R,
     alloc: Global,
@@ -61,14 +63,17 @@ pub fn run<R: Threads + Wait + Sync, G: Gate + Sync, S: AsStr, O: Opener, W: Wri
         (O.held opener.new) (W.contents out.old) (W.contents out.new) result) }
     ensures usage { takes rim (map S.text words.now) ≡ true → result ≢ 2 }
     ensures mistaken { IsMistaken (map S.text words.now) → (result ≡ 2) ⊎ (result ≡ 4) }
-    ensures helps { AsksForHelp (map S.text words.now) → result ≢ 2 }
+    ensures helps { AsksForHelp (map S.text words.now)
+        → (result ≢ 2) × (O.held opener.new ≡ O.held opener.old) }
     ensures refused { takes rim (map S.text words.now) ≡ true → result ≡ 3
         → AsksFor (map S.text words.now) (λ request. EndsWithFault request (O.held opener.old)
         (O.held opener.new) (out.new ≡ out.old) (W.contents out.old) (W.contents out.new) result)
-        ⊎ ((terminals.out ≡ true) × (AsksForBytes (map S.text words.now) × (out.new ≡ out.old))) }
+        ⊎ ((terminals.out ≡ true) × (AsksForBytes (map S.text words.now)
+        × ((out.new ≡ out.old) × (O.held opener.new ≡ O.held opener.old)))) }
     ensures terminal { takes rim (map S.text words.now) ≡ true → terminals.out ≡ true
         → AsksForBytes (map S.text words.now) → (3 ≤ result) × (out.new ≡ out.old) }
-    ensures kept { (result ≡ 2) ⊎ (result ≡ 4) → out.new ≡ out.old }
+    ensures kept { (result ≡ 2) ⊎ (result ≡ 4)
+        → (out.new ≡ out.old) × (O.held opener.new ≡ O.held opener.old) }
 {
     let request = match command(alloc, words) {
         Ok(request) => request,
@@ -104,7 +109,7 @@ fn run_request<R: Threads + Wait + Sync, G: Gate + Sync, O: Opener, W: Write, E:
         (W.contents out.old) (W.contents out.new) result }
     ensures refused { result ≡ 3 → EndsWithFault request.entry (O.held opener.old)
         (O.held opener.new) (out.new ≡ out.old) (W.contents out.old) (W.contents out.new) result }
-    ensures kept { result ≡ 4 → out.new ≡ out.old }
+    ensures kept { result ≡ 4 → (out.new ≡ out.old) × (O.held opener.new ≡ O.held opener.old) }
 {
     let mut aside = Aside::new(alloc, is_explained(&request, terminals));
     match answer_to(rt, alloc, gate, request, opener, &mut aside) {
@@ -139,7 +144,8 @@ fn deliver<O: Opener, W: Write, E: Write>(
         (W.contents out.old) (W.contents out.new) answer.text.items }
     ensures ends { ((result ≡ answer.status) × IsWritten (output_of request.now)
         (O.held opener.new) (W.contents out.old) (W.contents out.new) answer.text.items)
-        ⊎ (result ≡ 3) }
+        ⊎ ((result ≡ 3) × (O.held opener.new ≡ O.held opener.old)) }
+    ensures others { KeepsOthers (output_of request.now) (O.held opener.old) (O.held opener.new) }
 {
     let text = answer.text.as_slice();
     let Some(path) = request.output else {

@@ -14,6 +14,7 @@ pub fn replay<O: Opener>(alloc: Global, opener: &mut O, path: &str) -> Result<An
         (λ bytes. IsReplayed bytes a.text.items a.status)) }
     ensures refused { IfErr result (IsFileFault (O.held opener.old path.now)) }
     ensures status { IfOk result (λ a. a.status ≤ 1) }
+    ensures stays { O.held opener.new ≡ O.held opener.old }
 {
     let bytes = read_file(alloc, opener, path)?;
     let answer = rim_release::replay(alloc, bytes.as_slice());

@@ -29,6 +29,7 @@ pub fn launch_rim<O: Opener>(
         (manifest_of bytes) (λ r. IsRim (O.held opener.old) r launch.now m))) }
     ensures refused { IfErr result
         (RefusesManifest (RefusesRim (O.held opener.old) launch.now) (O.held opener.old path.now)) }
+    ensures stays { O.held opener.new ≡ O.held opener.old }
 {
     let found = read_launch(alloc, opener, path, launch)?;
     let loaded = LoadedRelease::new(&found.release, &found.files);

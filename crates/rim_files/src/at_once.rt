@@ -28,6 +28,7 @@ pub fn read_files_at_once<O: Opener, R: Threads + Sync>(
     ensures each { IfOk result (λ files. AreRead (O.held opener.old) release.now.paths
         (map (λ file. file.items) files.items)) }
     ensures fault { IfErr result (IsFirstFault (O.held opener.old) release.now.paths) }
+    ensures stays { O.held opener.new ≡ O.held opener.old }
 {
     let mut files = Vec::new(alloc);
     let mut opened = Vec::new(alloc);

@@ -1,5 +1,5 @@
 //! Files, opened by their paths and read whole, or saved.
-ghost use Rattle.std.specs.Prelude.{◌≡◌, ◌≤◌, ℕ, IfErr, IfOk, IfSome, List, None, OnOk, Some, length, map, option_map, vec_len};
+ghost use Rattle.std.specs.Prelude.{◌≡◌, ◌≢◌, ◌≤◌, ℕ, IfErr, IfOk, IfSome, List, None, OnErr, OnOk, Some, length, map, option_map, vec_len};
 ghost use Rattle.rim_files.specs.Files.{AreRead, IfFile, IsFileFault, IsFirstFault, IsRead, Known};
 ghost use Rattle.rim_files.specs.declared.file.TheConstants.{FILE_LIMIT};
 
@@ -26,10 +26,13 @@ pub trait Opener {
             (λ bytes. Self.Reader.remaining reader ≡ Some bytes)) }
         ensures stays { held self.new ≡ held self.old };
 
-    /// Makes a file with these bytes, in place of one that is there: it has all of them, or is as it was. No file can be saved where
-    /// this is not said otherwise.
+    /// Saves these bytes as the whole file at a path, which may exist. No other file changes, and after an error no file at all.
+    /// By default, saving fails.
     fn save(&mut self, path: &str, bytes: &[u8]) -> io::Result<()>
-        ensures { OnOk result (IfFile (held self.new path.now) (λ file. file ≡ bytes.now)) }
+        ensures saved { OnOk result (IfFile (held self.new path.now) (λ file. file ≡ bytes.now)) }
+        ensures others { (other : List ℕ) → other ≢ path.now
+            → held self.new other ≡ held self.old other }
+        ensures kept { OnErr result (held self.new ≡ held self.old) }
     {
         Err(io::Error::from(ErrorKind::Unsupported))
     }
@@ -76,6 +79,7 @@ pub fn read_files<O: Opener>(
     ensures each { IfOk result (λ files. AreRead (O.held opener.old) release.now.paths
         (map (λ file. file.items) files.items)) }
     ensures fault { IfErr result (IsFirstFault (O.held opener.old) release.now.paths) }
+    ensures stays { O.held opener.new ≡ O.held opener.old }
 {
     let mut files = Vec::new(alloc);
     for i in 0..release.file_count() {

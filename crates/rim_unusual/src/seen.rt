@@ -119,13 +119,17 @@ fn with_own_size(alloc: Global, bytes: &[u8]) -> Result<Option<Vec<u8>>, NoMemor
     else {
         return Ok(None);
     };
-    let size = bytes.len() as u64;
-    let is_cut = Cells::One.read(total).is_some_and(|total| size < total);
+    let Ok(size) = u32::try_from(bytes.len()) else {
+        return Ok(None);
+    };
+    let is_cut = Cells::One
+        .read(total)
+        .is_some_and(|total| u64::from(size) < total);
     if !is_cut {
         return Ok(None);
     }
     let mut shorter = Vec::from_slice(alloc, magic)?;
-    shorter.extend_from_slice(&(size as u32).to_be_bytes())?;
+    shorter.extend_from_slice(&size.to_be_bytes())?;
     shorter.extend_from_slice(rest)?;
     Ok(Some(shorter))
 }

@@ -25,12 +25,12 @@ returns-clause-refused g c f refuses =
     (c.run.ensures.usage plain_taken)
     (λ three. elim (c.run.ensures.refused plain_taken three) [
       | inl asks ↦ elim asks.holds [
-        | inl refused ↦ ap (λ out. out.items) refused.1
+        | inl refused ↦ ap (λ out. out.items) refused.1.0
         | inr (inl unwritten) ↦ absurd (none_made c.args.manifest.now f unwritten.text unwritten.status refuses
             (record { request = asks.request; asked = asks.asked; holds = unwritten.made }))
         | inr (inr done) ↦ absurd (none_made c.args.manifest.now f done.text c.run.result refuses
             (record { request = asks.request; asked = asks.asked; holds = done.made }))
       ]
-      | inr terminal ↦ ap (λ out. out.items) terminal.1.1
+      | inr terminal ↦ ap (λ out. out.items) terminal.1.1.0
     ])
-    (λ four. ap (λ out. out.items) (c.run.ensures.kept (inr four)))
+    (λ four. ap (λ out. out.items) (c.run.ensures.kept (inr four)).0)

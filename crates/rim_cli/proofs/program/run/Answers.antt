@@ -1,4 +1,4 @@
-use Rattle.std.proofs.Common.{◌∙◌, ap, map, rules, sym}
+use Rattle.std.proofs.Common.{◌∙◌, ap, map, refl, rules, sym}
 use Rattle.clap.specs.Words.{kind_of}
 use Rattle.clap.specs.declared.error.Error.{Error}
 use Rattle.rim_words.specs.Command.{is_asked}
@@ -12,9 +12,11 @@ returns-in-Err-Usage-clause-mistaken g c mistaken =
     ∙ mistaken_kind (map g.S.AsStr.text c.args.words.now) _ _ c.in-Err-Usage.field-0-is mistaken c.in-Err-Usage.ensures.refused)
 
 pub returns-in-Err-Usage-clause-helps : goal.returns-in-Err-Usage-clause-helps
-returns-in-Err-Usage-clause-helps g c asks =
-    c.show_usage-status.ensures.helps (ap (λ (e : Error). is_asked (kind_of e)) c.in-Err-Usage.answer-is
-    ∙ asked_kind (map g.S.AsStr.text c.args.words.now) _ _ c.in-Err-Usage.field-0-is asks c.in-Err-Usage.ensures.refused)
+returns-in-Err-Usage-clause-helps g c asks = (
+  c.show_usage-status.ensures.helps (ap (λ (e : Error). is_asked (kind_of e)) c.in-Err-Usage.answer-is
+      ∙ asked_kind (map g.S.AsStr.text c.args.words.now) _ _ c.in-Err-Usage.field-0-is asks c.in-Err-Usage.ensures.refused),
+  refl,
+)
 
 pub returns-clause-terminal : goal.returns-clause-terminal
 returns-clause-terminal g c taken out asks =
