@@ -2,16 +2,16 @@
 """Checks the definitions of the house against its documents.
 
     tools/checks/definitions.py             the table of promises with their lines
-    tools/checks/definitions.py --reading   the files of the headline in the order of reading, as docs/PROMISES.md lists them
+    tools/checks/definitions.py --reading   the files of the headline and of "What a RIM binds" in the order of reading, as docs/PROMISES.md lists them
     tools/checks/definitions.py --wide      the files of proofs with a line of more than 160 columns, as tools/checks/wide_proofs.txt lists them
     tools/checks/definitions.py --check     status 1 where something does not hold
 
 A promise of docs/PROMISES.md names definitions, as `FILE.word`. Its number is how many lines of definitions one
 has to believe for it: those that it names and all that they are made of, down to the kit's own words.
-Comments, imports and empty lines do not count, nor do types that are declared in src/.
+Comments, imports and empty lines do not count. Types and constants that are declared in src/ count in the lists for reading alone.
 
 The check asks ten things:
-1. each number of docs/PROMISES.md is the one that is counted here, and its list for reading the headline is the one that is made here;
+1. each number of docs/PROMISES.md is the one that is counted here, and its lists for reading are those that are made here;
 2. docs/ARCHITECTURE.md names each file of specs/, but for those in specs/inside/, which hold what loops and
    fields keep;
 3. each definition of specs/ is named by a contract, or by a definition that is. What only proofs need belongs in
@@ -101,7 +101,41 @@ def declarations():
             key = crate, place, name
             found[key] = len(lines)
             named[key] = {k for w in spoken("\n".join(lines)) for k in resolved(w, names, files)} - {key}
-    return {key: (count, {k for k in named[key] if k in found}) for key, count in found.items()}
+    return {key: (count, named[key]) for key, count in found.items()}
+
+
+def declared_lines(crate, name):
+    """The file in src/ that declares a type or a constant, and its lines without comments and attributes."""
+    head = re.compile(rf"^pub(?:\(crate\))? (?:(?:struct|enum) {name}\b[^;{{]*(?:;|\{{\}}|\{{.*?^}})|const {name}\b.*?;)$", re.M | re.S)
+    for path in sorted((TOP / "crates" / crate / "src").rglob("*.rt")):
+        found = head.search(path.read_text())
+        if found:
+            return path, [line for line in found.group(0).splitlines() if line.strip() and not re.match(r"\s*(//|#\[)", line)]
+    return None, []
+
+
+def source_types(known, keys):
+    """The types and constants of src/ that these declarations name, and the types of their fields: (file, name) and its lines.
+
+    A type whose values the contracts see by a view (`impl Model`) is left out: its view is among the declarations."""
+    own, _ = used_crates()
+    left = [(k[0], k[2]) for key in keys for k in known[key][1] if k[1].startswith("declared.")]
+    found = {}
+    while left:
+        crate, name = left.pop()
+        path, lines = declared_lines(crate, name)
+        if path is None or (path, name) in found:
+            continue
+        text = path.read_text()
+        if re.search(rf"^impl.* Model for {name}\b", text, re.M):
+            continue
+        found[path, name] = lines
+        homes = dict.fromkeys(re.findall(r"^pub (?:struct|enum|const) (\w+)", text, re.M), crate)
+        for home, listed, alone in re.findall(r"^use (\w+)::(?:\w+::)*(?:\{([^}]*)\}|(\w+));", text, re.M):
+            homes.update(dict.fromkeys(re.split(r",\s*", (listed or alone).strip()), crate if home == "crate" else home))
+        words = set(re.findall(r"\b[A-Z]\w+", " ".join(lines[1:]))) - {name}
+        left += [(homes[word], word) for word in words if homes.get(word) in own]
+    return found
 
 
 def reached(known, keys):
@@ -157,42 +191,88 @@ def promises(known):
         yield crate, cells[1], cells[3], counted
 
 
-def headline(known):
-    """What the contract of `measure_release` and the law beside it name: the two promises of docs/PROMISES.md that are the headline."""
+# The crate whose bold promise is "What a RIM binds" of docs/PROMISES.md. The other bold promises are the headline.
+BINDING = "rim_binding"
+
+
+def bold(known, is_binding):
+    """What the bold promises of docs/PROMISES.md name: those of the headline, or that of what a RIM binds."""
     crate = None
     for line in (TOP / "docs/PROMISES.md").read_text().splitlines():
         if line.startswith("## "):
             crate = line[3:].strip()
-        if line.startswith("| **"):
+        if line.startswith("| **") and (crate == BINDING) == is_binding:
             yield from pointed_at(known, crate, line.split(" | ")[1])
 
 
-def reading(known):
-    """The rows of the list for reading the headline: each file before those that it is made of, with its lines and what it holds."""
-    keys = reached(known, headline(known))
-    lines, below = {}, {}
+def in_order(known, roots, keys):
+    """The files of these declarations, each before those that it is made of."""
+    below = {}
     for key in keys:
-        lines[key[:2]] = lines.get(key[:2], 0) + known[key][0]
         below.setdefault(key[:2], set()).update(k[:2] for k in known[key][1] & keys if k[:2] != key[:2])
     order, seen = [], set()
 
     def visit(file):
         if file not in seen:
             seen.add(file)
-            for other in sorted(below[file], reverse=True):
+            for other in sorted(below.get(file, ()), reverse=True):
                 visit(other)
             order.insert(0, file)
 
-    for key in sorted(headline(known), reverse=True):
+    for key in sorted(roots, reverse=True):
         visit(key[:2])
-    for crate, place in order:
-        text = (TOP / "crates" / crate / "specs" / (place.replace(".", "/") + ".antt")).read_text()
-        holds = re.match(r"-- (.*?)(?:\. |\.?$)", " ".join(re.match(r"(?:-- .*\n)+", text).group(0).split("\n-- ")).strip())
-        yield f"| `{crate}/specs/{place.replace('.', '/')}.antt` | {lines[crate, place]} | {holds.group(1)} |"
-    whole = sum(lines.values())
-    edits = sum(count for file, count in lines.items() if file[0] in ("fdt_header", "fdt_tree") or file == ("ipa_layout", "DtbEdit"))
-    yield f"| all | {whole} | |"
-    yield f"| all but the edits of a devicetree | {whole - edits} | for launches whose devicetree is placed as its file |"
+    return order
+
+
+def first_sentence(text, mark):
+    """The first sentence of the comment at the top of a file."""
+    lines = re.match(rf"(?:{mark} .*\n)+", text).group(0).splitlines()
+    whole = " ".join(line[len(mark) + 1:] for line in lines).strip()
+    return re.match(r"(.*?)(?:\. |\.?$)", whole).group(1)
+
+
+def rows(known, roots, keys, types):
+    """The rows of a list for reading, without its sums: the files of the definitions and then those of src/, with what each holds."""
+    counts = {}
+    for key in keys:
+        counts[key[:2]] = counts.get(key[:2], 0) + known[key][0]
+    for crate, place in in_order(known, roots, keys):
+        file = f"{crate}/specs/{place.replace('.', '/')}.antt"
+        yield f"| `{file}` | {counts[crate, place]} | {first_sentence((TOP / 'crates' / file).read_text(), '--')} |"
+    sources = {}
+    for (path, _), lines in types.items():
+        sources[path] = sources.get(path, 0) + len(lines)
+    for path, count in sorted(sources.items()):
+        yield f"| `{path.relative_to(TOP / 'crates')}` | {count} | {first_sentence(path.read_text(), '//!')} |"
+
+
+def size(known, keys, types):
+    """How many lines these declarations have."""
+    return sum(known[key][0] for key in keys) + sum(map(len, types.values()))
+
+
+def reading(known):
+    """The rows of the list for reading the headline, with its sums."""
+    roots = set(bold(known, False))
+    keys = reached(known, roots)
+    types = source_types(known, keys)
+    yield from rows(known, roots, keys, types)
+    edits = {key for key in keys if key[0] in ("fdt_header", "fdt_tree") or key[:2] == ("ipa_layout", "DtbEdit")}
+    others = keys - edits
+    yield f"| all | {size(known, keys, types)} | |"
+    yield f"| all but the edits of a devicetree | {size(known, others, source_types(known, others))} | for launches whose devicetree is placed as its file |"
+
+
+def binding(known):
+    """The rows of the list for reading what a RIM binds: what the headline does not need, and the sums."""
+    above = reached(known, set(bold(known, False)))
+    roots = set(bold(known, True))
+    keys = reached(known, roots)
+    types, seen = source_types(known, keys), source_types(known, above)
+    new, fresh = keys - above, {key: lines for key, lines in types.items() if key not in seen}
+    yield from rows(known, roots, new, fresh)
+    yield f"| in files of the headline | {size(known, keys, types) - size(known, new, fresh)} | |"
+    yield f"| all that a RIM binds | {size(known, keys, types)} | |"
 
 
 def unnamed_files():
@@ -343,7 +423,7 @@ def main():
         return 0
     known, wrong = declarations(), []
     if "--reading" in sys.argv:
-        print("\n".join(reading(known)))
+        print("\n".join([*reading(known), "", *binding(known)]))
         return 0
     for crate, what, written, counted in promises(known):
         if "--check" not in sys.argv:
@@ -353,7 +433,7 @@ def main():
     if "--check" in sys.argv:
         wrong += [f"docs/ARCHITECTURE.md does not name {path}" for path in unnamed_files()]
         listed = (TOP / "docs/PROMISES.md").read_text().splitlines()
-        wrong += [f"docs/PROMISES.md: the list for reading the headline lacks: {row}" for row in reading(known) if row not in listed]
+        wrong += [f"docs/PROMISES.md: a list for reading lacks: {row}" for row in [*reading(known), *binding(known)] if row not in listed]
         wrong += [*missing_constants(), *wide_lines(), *wrong_widths()]
         wrong += [*unpromised(), *doubled_rows(), *wrong_trust(), *missing_names()]
         used = reached(known, cited(known))
