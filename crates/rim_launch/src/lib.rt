@@ -10,6 +10,7 @@ mod realm;
 mod rec;
 mod step;
 
+pub use conditions::steps_complete;
 pub use config::{Config, POOL_LIMIT};
 pub use item::{Bootargs, Edits, Item, ItemKind, Region, Role, has_no_zero};
 pub use launch::{ITEM_LIMIT, Launch, NAMED_REC_LIMIT, REGION_LIMIT};
