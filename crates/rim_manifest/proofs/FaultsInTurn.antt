@@ -4,17 +4,18 @@ use Rattle.std.proofs.Common.{drop, map, Bool, true, false, Option, Some, None, 
 use Rattle.std.proofs.Common.{append-nil, arith, length-append, subst, sym, ◌∙◌}
 use Rattle.std.specs.List.{flat_map}
 use Rattle.std.proofs.lemmas.List.{drop_more, map-append}
-use Rattle.std.specs.Prelude.{nat_lt}
+use Rattle.std.specs.Prelude.{All, Contains, nat_lt}
+use Rattle.std.proofs.lemmas.List.Elements.{All-append, All-cons, All-head, All-nil, All-tail, All-weaker}
 use Rattle.std.proofs.lemmas.Bool.{le-leb, lt-leb, ltb-false, ltb-true, or_parts}
 use Rattle.rim_manifest.specs.declared.fault.ManifestFault.{ManifestFault}
 use Rattle.rim_manifest.specs.declared.fault_list.FaultList.{FaultList}
 use Rattle.rim_manifest.specs.declared.finding.Finding.{Finding}
 use Rattle.rim_manifest.specs.declared.finding.Findings.{Findings}
 use Rattle.rim_manifest.specs.declared.finding.Findings.TheVariants as findings
-use Rattle.rim_manifest.specs.Faults.{IsSubsequence, is_lower, lower, lowest, noted, rank_of}
+use Rattle.rim_manifest.specs.Faults.{IsSubsequence, fault_if, is_lower, lower, lowest, noted, rank_of}
 use Rattle.rim_manifest.specs.Found.{AreListed}
 use Rattle.rim_manifest.specs.inside.Findings.{kept, list_kept}
-use Rattle.rim_manifest.specs.inside.Kept.{Kept, Lowest, Listed, faults_in, is_listed, with_fault, with_faults}
+use Rattle.rim_manifest.specs.inside.Kept.{AddsOnly, Kept, Lowest, Listed, faults_in, is_listed, with_fault, with_faults}
 use Rattle.rim_manifest.specs.declared.fault_list.TheConstants.{FINDING_LIMIT}
 
 pub with_append : (k : Kept) (fs gs : List ManifestFault) → with_faults k (fs ++ gs) ≡ with_faults (with_faults k fs) gs
@@ -167,3 +168,38 @@ not_lowest found fs least is ends =
 pub flat_map_map : {X Y Z : Type 0} (g : Y → List Z) (f : X → Y) (xs : List X) → flat_map g (map f xs) ≡ flat_map (λ x. g (f x)) xs
 flat_map_map g f [] = refl
 flat_map_map g f (x ∷ xs) = ap (λ ys. g (f x) ++ ys) (flat_map_map g f xs)
+
+-- ---- only faults among some are added
+
+pub adds_nothing : (allowed : List ManifestFault) (k : Kept) → AddsOnly allowed k k
+adds_nothing allowed k = record { added = []; each = All-nil (Contains allowed); are = refl }
+
+pub adds_two : (allowed : List ManifestFault) (o p q : Kept) → AddsOnly allowed o p → AddsOnly allowed p q → AddsOnly allowed o q
+adds_two allowed o p q first second = record {
+  added = first.added ++ second.added;
+  each = All-append (Contains allowed) first.added second.added first.each second.each;
+  are = noted_two o p q first.added second.added first.are second.are;
+}
+
+pub adds_if : (allowed : List ManifestFault) (holds : Bool) (f : ManifestFault) (o p : Kept) → (holds ≡ true → Contains allowed f)
+    → p ≡ with_faults o (fault_if holds f) → AddsOnly allowed o p
+adds_if allowed true f o p among are =
+    record { added = f ∷ []; each = All-cons (Contains allowed) f [] (among refl) (All-nil (Contains allowed)); are = are }
+adds_if allowed false f o p among are = record { added = []; each = All-nil (Contains allowed); are = are }
+
+pub adds_among : (few many : List ManifestFault) (o p : Kept) → ((f : ManifestFault) → Contains few f → Contains many f) → AddsOnly few o p → AddsOnly many o p
+adds_among few many o p more adds =
+    record { added = adds.added; each = All-weaker (Contains few) (Contains many) more adds.added adds.each; are = adds.are }
+
+all_of_some : (P : ManifestFault → Type 0) (fs gs : List ManifestFault) → IsSubsequence fs gs → All P gs → All P fs
+all_of_some P [] gs is all = All-nil P
+all_of_some P (f ∷ fs) [] is all = absurd is
+all_of_some P (f ∷ fs) (g ∷ gs) (inl same) all =
+    All-cons P f fs (subst P (sym same.0) (All-head P g gs all)) (all_of_some P fs gs same.1 (All-tail P g gs all))
+all_of_some P (f ∷ fs) (g ∷ gs) (inr later) all = all_of_some P (f ∷ fs) gs later (All-tail P g gs all)
+
+-- each fault of the list that is kept in the end is among them
+pub all_among : (allowed : List ManifestFault) (found : Findings) (list : FaultList) → found ≡ findings.Listed list
+    → AddsOnly allowed (Listed [] 0) (kept found) → All (Contains allowed) (faults_in list.findings.items)
+all_among allowed found list is adds =
+    all_of_some (Contains allowed) (faults_in list.findings.items) adds.added (list_is found adds.added list is adds.are).some adds.each

@@ -1,10 +1,10 @@
 -- The lowest of some faults: where it comes from, and what it is below.
-use Rattle.std.proofs.Common.{◌≡◌, ℕ, ◌≤◌, ◌<◌, List, [], ◌∷◌, ◌++◌, length, zero, suc, Bool, true, false, cond, not, Option, Some, None, Err, refl, ap, ◌∙◌}
+use Rattle.std.proofs.Common.{◌≡◌, ℕ, ◌≤◌, ◌<◌, List, [], ◌∷◌, ◌++◌, length, zero, suc, Bool, true, false, cond, not, Option, Some, None, Err, refl, sym, ap, ◌∙◌}
 use Rattle.std.proofs.Common.{arith, ◌⊎◌, inl, inr, codes}
 use Rattle.std.specs.Prelude.{nat_le, Contains, slice_index_or}
 use Rattle.std.specs.List.{AllByRecursion, flat_map}
 use Rattle.std.proofs.lemmas.Bool.{leb-false, leb-true}
-use Rattle.std.proofs.lemmas.List.Elements.{All-from_recursion, Contains-append_left, Contains-append_right}
+use Rattle.std.proofs.lemmas.List.Elements.{All-from_recursion, Contains-append_cases, Contains-append_left, Contains-append_right}
 use Rattle.toml.specs.Data.{Data, Members, table, get_member}
 use Rattle.rim_manifest.specs.declared.fault.ManifestFault.{ManifestFault}
 use Rattle.rim_manifest.specs.declared.fault.ManifestFault.TheVariants.{Version, WrongKind, UnknownKey, MissingKey, Limit, Range, TwoNames, NoSuchFile, BadStep}
@@ -15,7 +15,7 @@ use Rattle.rim_rules.specs.Versions.{has_version, lacks_rule, launch_rules_in, v
 use Rattle.rim_rules.specs.declared.version.FormatVersion.{FormatVersion}
 use Rattle.rim_manifest.specs.Checks.{cell_faults, has_unknown_key, rule_faults, ruled_faults, table_faults}
 use Rattle.rim_manifest.specs.Manifest.{all_faults, fault_or_named, fault_or_release, files_at, has_no_file, has_two_names, item_faults, launch_faults}
-use Rattle.rim_manifest.specs.Manifest.{launches_at, manifest_faults, name_faults, read_of}
+use Rattle.rim_manifest.specs.Manifest.{launches_at, manifest_faults, name_faults, name_faults_if, named_of, read_of}
 use Rattle.rim_rules.specs.Kinds.{rules_of}
 use Rattle.rim_rules.specs.Names.{has_asked, role_at}
 use Rattle.rim_manifest.specs.StepTexts.{has_bad_steps}
@@ -195,6 +195,50 @@ by_names ms f none found =
       holds = Contains-append_right (manifest_faults ms) (name_faults ms) f there;
       first = All-from_recursion (λ g. rank_of f ≤ rank_of g) (all_faults ms) (behind_append f (manifest_faults ms) (name_faults ms) nothing facts.each);
     }
+
+-- ---- faults of names that a document has
+
+pub lowest_contained : (fs : List ManifestFault) (f : ManifestFault) → lowest fs ≡ Some f → Contains fs f
+lowest_contained fs f found = elim (noted_found None fs f found).origin [ inl none ↦ absurd (cc) | inr there ↦ there ]
+
+pub named_contained : (ms : Members) (f : ManifestFault) → named_of ms ≡ Err f → Contains (name_faults ms) f
+named_contained ms f h = by_lowest (lowest (name_faults ms)) refl h
+  where
+    by_lowest : (o : Option ManifestFault) → lowest (name_faults ms) ≡ o → fault_or_release ms o ≡ Err f → Contains (name_faults ms) f
+    by_lowest (Some g) found e = let same : g ≡ f = cc in lowest_contained (name_faults ms) f (found ∙ ap Some same)
+    by_lowest None found e = cc
+
+if_among : (b b' : Bool) (g f : ManifestFault) → (b ≡ true → b' ≡ true) → Contains (fault_if b g) f → Contains (fault_if b' g) f
+if_among true true g f holds there = there
+if_among true false g f holds there = let no : false ≡ true = holds refl in cc
+if_among false b' g f holds there = absurd (omega (arith, there.1))
+
+-- what is found by these tests holds in the document
+pub name_among : (ms : Members) (two none bad : Bool) → two ≡ has_two_names ms → none ≡ has_no_file ms
+    → (bad ≡ true → has_bad_steps (launches_at ms) ≡ true) → (f : ManifestFault) → Contains (name_faults_if two none bad) f → Contains (name_faults ms) f
+unfolding name_faults
+name_among ms two none bad two_is none_is bad_is f there =
+    let twos : List ManifestFault = fault_if (has_two_names ms) TwoNames in
+    let nones : List ManifestFault = fault_if (has_no_file ms) NoSuchFile in
+    let bads : List ManifestFault = fault_if (has_bad_steps (launches_at ms)) BadStep in
+    elim (Contains-append_cases _ _ f there) [
+      | inl first ↦ Contains-append_left twos (nones ++ bads) f (if_among two (has_two_names ms) TwoNames f (λ e. sym two_is ∙ e) first)
+      | inr later ↦
+          Contains-append_right twos (nones ++ bads) f (elim (Contains-append_cases _ _ f later) [
+            | inl second ↦ Contains-append_left nones bads f (if_among none (has_no_file ms) NoSuchFile f (λ e. sym none_is ∙ e) second)
+            | inr third ↦ Contains-append_right nones bads f (if_among bad (has_bad_steps (launches_at ms)) BadStep f bad_is third)
+          ])
+    ]
+
+pub among_two : (a b c : Bool) → a ≡ true → Contains (name_faults_if a b c) TwoNames
+among_two a b c e = rw e (0, omega arith, refl)
+
+pub among_none : (a b c : Bool) → b ≡ true → Contains (name_faults_if a b c) NoSuchFile
+among_none a b c e = Contains-append_right (fault_if a TwoNames) _ NoSuchFile (rw e (0, omega arith, refl))
+
+pub among_bad : (a b c : Bool) → c ≡ true → Contains (name_faults_if a b c) BadStep
+among_bad a b c e =
+    Contains-append_right (fault_if a TwoNames) _ BadStep (Contains-append_right (fault_if b NoSuchFile) _ BadStep (rw e (0, omega arith, refl)))
 
 pub refused_by_lowest : (ms : Members) (f : ManifestFault) → read_of ms ≡ Err f → IsLowest f (all_faults ms)
 refused_by_lowest ms f h = of_tables (lowest (manifest_faults ms)) refl h

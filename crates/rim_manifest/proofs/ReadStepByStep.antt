@@ -2,14 +2,20 @@
 use Rattle.std.proofs.Common.{◌≡◌, ℕ, Bool, cond, true, false, List, [], ◌++◌, Option, Some, None, Ok, Err, refl, ap, sym, ◌∙◌}
 use Rattle.std.proofs.lemmas.Str.{IsUtf8-from_is_utf8, is_utf8-from_IsUtf8}
 use Rattle.std.specs.Str.{IsUtf8, is_utf8}
-use Rattle.toml.specs.Data.{Members}
+use Rattle.std.specs.Prelude.{◌||◌, map}
+use Rattle.std.specs.List.{list_any}
+use Rattle.toml.specs.Data.{Data, Members}
+use Rattle.toml.specs.View.{view}
+use Rattle.toml.specs.declared.value.Value.{Value}
+use Rattle.rim_rules.specs.Names.{lacks_file, repeats, share_names}
+use Rattle.rim_rules.proofs.ListsOfValues.{list_any_map}
 use Rattle.toml.specs.Parse.{parse_document}
 use Rattle.rim_manifest.specs.declared.fault.ManifestFault.{ManifestFault}
 use Rattle.rim_manifest.specs.declared.fault.ManifestFault.TheVariants.{BadStep, NoSuchFile, Syntax, TwoNames}
 use Rattle.rim_manifest.specs.Faults.{fault_if, lower, lowest}
 use Rattle.rim_manifest.specs.Launches.{ReleaseData}
-use Rattle.rim_manifest.specs.StepTexts.{has_bad_steps}
-use Rattle.rim_manifest.specs.Manifest.{document_of, fault_or_named, fault_or_release, has_no_file, has_two_names, launches_at, launches_of, manifest_faults}
+use Rattle.rim_manifest.specs.StepTexts.{has_bad_steps, is_miscounted, is_misnamed}
+use Rattle.rim_manifest.specs.Manifest.{document_of, fault_or_named, fault_or_release, files_at, has_no_file, has_two_names, launches_at, launches_of, manifest_faults}
 use Rattle.rim_manifest.specs.Manifest.{manifest_of, name_faults, named_of, paths_of}
 
 pub document_read : (b : List ℕ) (ms : Members) → IsUtf8 b → parse_document b ≡ Some ms → document_of b ≡ Some ms
@@ -72,3 +78,28 @@ no_name_fault ms one each good = rw (one, each, good) refl
 
 pub named : (ms : Members) (r : ReleaseData) → name_faults ms ≡ [] → r.paths ≡ paths_of ms → r.launches ≡ launches_of ms → named_of ms ≡ Ok r
 named ms r none paths launches = rw none (ap Ok (sym (λ i. record { paths = paths i; launches = launches i })))
+
+-- ---- the tests of the code, which go over the values of a document
+
+pub twice : (ms : Members) (files launches : List Value) (b : Bool) → map view files ≡ files_at ms → map view launches ≡ launches_at ms
+    → b ≡ (share_names (map view files) || share_names (map view launches) || list_any (λ l. repeats (view l)) launches) → b ≡ has_two_names ms
+twice ms files launches b files_are launches_are h = rw (← files_are, ← launches_are, list_any_map repeats view launches) h
+
+pub without : (ms : Members) (files launches : List Value) (b : Bool) → map view files ≡ files_at ms → map view launches ≡ launches_at ms
+    → b ≡ list_any (λ l. lacks_file (map view files) (view l)) launches → b ≡ has_no_file ms
+without ms files launches b files_are launches_are h = rw (← files_are, ← launches_are, list_any_map (lacks_file (map view files)) view launches) h
+
+-- what a launch's steps say of all of them
+pub counted : (ms : Members) (launches : List Value) (b : Bool) → map view launches ≡ launches_at ms → b ≡ list_any (λ l. is_miscounted (view l)) launches
+    → b ≡ list_any is_miscounted (launches_at ms)
+counted ms launches b launches_are h = rw (← launches_are, list_any_map is_miscounted view launches) h
+
+pub one_miscounted : (ds : List Data) → list_any is_miscounted ds ≡ true → has_bad_steps ds ≡ true
+one_miscounted ds e = rw e refl
+
+pub some_misnamed : (ds : List Data) → list_any is_misnamed ds ≡ true → has_bad_steps ds ≡ true
+some_misnamed ds e = by_count (list_any is_miscounted ds) refl
+  where
+    by_count : (b : Bool) → list_any is_miscounted ds ≡ b → has_bad_steps ds ≡ true
+    by_count true some = one_miscounted ds some
+    by_count false none = rw (none, e) refl

@@ -77,8 +77,12 @@ has_two_names ms = share_names (files_at ms) || share_names (launches_at ms) || 
 abbrev pub has_no_file : Members → Bool
 has_no_file ms = list_any (lacks_file (files_at ms)) (launches_at ms)
 
+-- the faults of names, of files and of steps, by whether each holds
+abbrev pub name_faults_if : Bool → Bool → Bool → List ManifestFault
+name_faults_if two_names no_file bad_step = fault_if two_names TwoNames ++ (fault_if no_file NoSuchFile ++ fault_if bad_step BadStep)
+
 unfoldable pub name_faults : Members → List ManifestFault
-name_faults ms = fault_if (has_two_names ms) TwoNames ++ (fault_if (has_no_file ms) NoSuchFile ++ fault_if (has_bad_steps (launches_at ms)) BadStep)
+name_faults ms = name_faults_if (has_two_names ms) (has_no_file ms) (has_bad_steps (launches_at ms))
 
 -- all faults that hold anywhere in a document
 abbrev pub all_faults : Members → List ManifestFault

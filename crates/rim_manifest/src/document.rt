@@ -1,11 +1,11 @@
 //! A manifest as a TOML document, which is searched for all of its faults.
-ghost use Rattle.std.specs.Prelude.{◌≡◌, ◌≢◌, IfErr, IfOk, None, Some, map, option_map};
+ghost use Rattle.std.specs.Prelude.{◌≡◌, ◌≢◌, [], ◌∷◌, All, Contains, Err, IfErr, IfOk, None, Some, map, option_map};
 ghost use Rattle.std.specs.List.{slice_get};
 ghost use Rattle.toml.specs.Errors.{IsMemory, IsWithin};
 ghost use Rattle.toml.specs.View.{table_view, view};
 ghost use Rattle.rim_manifest.specs.Faults.{lowest};
 ghost use Rattle.rim_manifest.specs.Found.{AreListed, IsChecked};
-ghost use Rattle.rim_manifest.specs.Manifest.{document_of, manifest_faults};
+ghost use Rattle.rim_manifest.specs.Manifest.{document_of, manifest_faults, name_faults, named_of};
 ghost use Rattle.rim_manifest.specs.Places.{table_at, table_of};
 ghost use Rattle.rim_rules.specs.Rules.{rule_of};
 ghost use Rattle.rim_rules.specs.Versions.{launch_rules_in, version_at};
@@ -131,12 +131,14 @@ fn faults_of_names(
     ensures least { IfOk result
         (λ found. lowest (faults_in found.findings.items) ≡ Some fault) }
     ensures own { IfOk result (λ _. fault ≢ ManifestFault.NoMemory) }
+    ensures names { IfOk result (λ found. named_of (table_view table.now) ≡ Err fault
+        → All (Contains (name_faults (table_view table.now))) (faults_in found.findings.items)) }
 {
     if fault == ManifestFault::NoMemory {
         return Err(NoMemory);
     }
     let mut found = Findings::Listed(FaultList::new(alloc));
-    find_names(table, &mut found)?;
+    find_names(alloc, table, &mut found)?;
     match found {
         Findings::Listed(list) if list.lowest() == Some(fault) => Ok(list),
         _ => one_fault(alloc, fault),
@@ -146,7 +148,9 @@ fn faults_of_names(
 /// This fault, of which no place is known.
 #[tactic(auto, unfolding(crate::specs::Faults::lower))]
 fn one_fault(alloc: Global, fault: ManifestFault) -> Result<FaultList, NoMemory>
-    ensures { IfOk result (λ found. lowest (faults_in found.findings.items) ≡ Some fault) }
+    ensures least { IfOk result
+        (λ found. lowest (faults_in found.findings.items) ≡ Some fault) }
+    ensures one { IfOk result (λ found. faults_in found.findings.items ≡ fault ∷ []) }
 {
     let mut list = FaultList::new(alloc);
     list.add(Finding {

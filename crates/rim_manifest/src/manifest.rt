@@ -242,7 +242,7 @@ pub fn read_release(alloc: Global, table: &Table) -> Result<Release, ManifestFau
 
 /// Whether two files, two launches or two items of a launch share a name, or two items a kind other than raw and
 /// unknown.
-fn has_two_names(files: &[Value], launches: &[Value]) -> bool
+pub fn has_two_names(files: &[Value], launches: &[Value]) -> bool
     ensures { result
         ≡ (share_names (map view files.now) || share_names (map view launches.now)
         || list_any (λ l. repeats (view l)) launches.now) }
@@ -257,14 +257,14 @@ fn any_repeats(launches: &[Value]) -> bool
 }
 
 /// Whether an item of a launch needs a file and names none.
-fn has_no_file(files: &[Value], launches: &[Value]) -> bool
+pub fn has_no_file(files: &[Value], launches: &[Value]) -> bool
     ensures { result ≡ list_any (λ l. lacks_file (map view files.now) (view l)) launches.now }
 {
     launches.iter().any(|launch| lacks_file(files, launch))
 }
 
 /// Whether a launch names other than as many steps as it has regions, items and RECs.
-fn any_miscounted(launches: &[Value]) -> bool
+pub fn any_miscounted(launches: &[Value]) -> bool
     ensures { result ≡ list_any (λ l. is_miscounted (view l)) launches.now }
 {
     launches.iter().any(|launch| is_miscounted(launch))

@@ -1,13 +1,15 @@
 //! Reading steps.
-ghost use Rattle.std.specs.Prelude.{◌≡◌, ◌==◌, ◌||◌, codes, length, map, option_map, IfOk};
+ghost use Rattle.std.specs.Prelude.{◌≡◌, ◌==◌, ◌||◌, codes, length, map, option_map, true, IfOk};
 ghost use Rattle.toml.specs.Data.{get};
 ghost use Rattle.toml.specs.View.{view};
-ghost use Rattle.rim_manifest.specs.StepTexts.{decimal_number, part_count, is_decimal, is_miscounted, item_number, step_in, step_of, steps_in};
+ghost use Rattle.rim_manifest.specs.StepTexts.{decimal_number, part_count, is_decimal, is_miscounted, is_misnamed, item_number, step_in, step_of, steps_in};
 ghost use Rattle.rim_rules.specs.Values.{array_at};
 ghost use Rattle.rim_rules.specs.Words.{after};
 
 use refusal::NoMemory;
-use rim_launch::{Item, REGION_LIMIT, Rec, Region, Step, default_steps};
+use rim_launch::{
+    Item, NAMED_REC_LIMIT, REGION_LIMIT, Rec, Region, Step, default_steps, steps_complete,
+};
 use rim_rules::kind::StepKind;
 use rim_rules::names::position_of;
 use rim_rules::value::{array, field, items};
@@ -112,4 +114,25 @@ fn part_count(launch: &Value) -> usize
     ensures { result ≡ part_count (view launch.now) }
 {
     array(launch, "ram").len() + array(launch, "item").len() + array(launch, "rec").len()
+}
+
+/// Returns whether the steps of a launch name what it lacks, or do not name each of its parts once. Returns false for a launch that
+/// has more regions, items or RECs than any may have, which is a fault of its table.
+pub fn is_misnamed(alloc: Global, launch: &Value) -> Result<bool, NoMemory>
+    ensures { IfOk result (λ b. b ≡ true → is_misnamed (view launch.now) ≡ true) }
+{
+    let Some(texts) = field(launch, "steps") else {
+        return Ok(false);
+    };
+    let tables = array(launch, "item");
+    let num_regions = array(launch, "ram").len();
+    let num_recs = array(launch, "rec").len();
+    if num_regions > NAMED_REC_LIMIT
+        || tables.len() > NAMED_REC_LIMIT
+        || num_recs > NAMED_REC_LIMIT
+    {
+        return Ok(false);
+    }
+    let steps = spelled_steps(alloc, tables, items(texts))?;
+    Ok(!steps_complete(num_regions, tables.len(), num_recs, &steps))
 }

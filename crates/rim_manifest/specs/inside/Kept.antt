@@ -1,5 +1,5 @@
 -- The faults of a manifest that are kept, as they are found one after another. This project's choice.
-use Rattle.std.specs.Prelude.{ℕ, ◌+◌, ◌||◌, Bool, List, [], ◌∷◌, ◌++◌, Option, length, map, nat_lt, if◌then◌else◌}
+use Rattle.std.specs.Prelude.{◌≡◌, ℕ, ◌+◌, ◌||◌, All, Bool, Contains, List, [], ◌∷◌, ◌++◌, Option, length, map, nat_lt, if◌then◌else◌}
 use Rattle.rim_manifest.specs.declared.fault.ManifestFault.{ManifestFault}
 use Rattle.rim_manifest.specs.declared.finding.Finding.{Finding}
 use Rattle.rim_manifest.specs.Faults.{is_lower, lower, lowest}
@@ -26,3 +26,9 @@ with_fault (Listed fs more) f = if is_listed fs f then Listed (fs ++ f ∷ []) m
 abbrev pub with_faults : Kept → List ManifestFault → Kept
 with_faults k [] = k
 with_faults k (f ∷ fs) = with_faults (with_fault k f) fs
+
+-- some faults were added, and each of them is among these
+pub record AddsOnly (allowed : List ManifestFault) (old new : Kept) : Type 0 where
+  pub added : List ManifestFault
+  pub each : All (Contains allowed) added
+  pub are : new ≡ with_faults old added

@@ -1,30 +1,19 @@
-use Rattle.std.proofs.Common.{◌≡◌, List, length, Bool, true, false, ◌||◌, map, Err, refl, ◌∙◌, sym, ap, inl, inr, string_bytes}
+use Rattle.std.proofs.Common.{◌≡◌, List, length, true, false, map, Err, refl, ◌∙◌, sym, ap, inl, inr, string_bytes}
 use Rattle.std.specs.List.{list_any}
 use Rattle.std.proofs.lemmas.List.{length-map}
 use Rattle.std.proofs.lemmas.Result.{err_from_is_err_and}
-use Rattle.toml.specs.Data.{Data, Members}
-use Rattle.toml.specs.View.{table_view, view}
-use Rattle.toml.specs.declared.value.Value.{Value}
+use Rattle.toml.specs.Data.{Data}
+use Rattle.toml.specs.View.{table_view}
 use Rattle.rim_manifest.specs.Launches.{launches_from}
 use Rattle.rim_rules.specs.Versions.{version_at}
 use Rattle.rim_rules.specs.declared.version.FormatVersion.{FormatVersion}
-use Rattle.rim_manifest.specs.Manifest.{all_made, files_at, has_no_file, has_two_names, launches_at, path_of}
+use Rattle.rim_manifest.specs.Manifest.{all_made, files_at, launches_at, path_of}
 use Rattle.rim_manifest.specs.StepTexts.{has_bad_steps, is_miscounted, is_misnamed}
-use Rattle.rim_rules.specs.Names.{lacks_file, repeats, share_names}
-use Rattle.rim_manifest.proofs.ReadStepByStep.{named, no_name_fault, refused_steps, refused_twice, refused_without}
+use Rattle.rim_manifest.proofs.ReadStepByStep.{counted, named, no_name_fault, one_miscounted, refused_steps, refused_twice, refused_without, twice, without}
 use Rattle.rim_manifest.proofs.MadeWithoutFaults.{all_read, all_refused}
-use Rattle.rim_rules.proofs.ListsOfValues.{list_any_map}
 use Rattle.rim_manifest.proofs.LaunchesNumbered.{are_numbered}
 use Rattle.rim_rules.proofs.ListsOfValues.{map_of_views}
 use Rattle.rim_manifest.proofs.manifest.read_release.Goals as goal
-
-twice : (ms : Members) (files launches : List Value) (b : Bool) → map view files ≡ files_at ms → map view launches ≡ launches_at ms
-    → b ≡ (share_names (map view files) || share_names (map view launches) || list_any (λ l. repeats (view l)) launches) → b ≡ has_two_names ms
-twice ms files launches b files_are launches_are h = rw (← files_are, ← launches_are, list_any_map repeats view launches) h
-
-without : (ms : Members) (files launches : List Value) (b : Bool) → map view files ≡ files_at ms → map view launches ≡ launches_at ms
-    → b ≡ list_any (λ l. lacks_file (map view files) (view l)) launches → b ≡ has_no_file ms
-without ms files launches b files_are launches_are h = rw (← files_are, ← launches_are, list_any_map (lacks_file (map view files)) view launches) h
 
 same : {v v' : FormatVersion} {files files' launches launches' : List Data} → v ≡ v' → files ≡ files' → launches ≡ launches'
     → all_made (launches_from v files 0 launches) ≡ all_made (launches_from v' files' 0 launches')
@@ -40,14 +29,6 @@ returns-then-has_no_file c =
     let ms = table_view c.args.table.now in
     inr (refused_without ms (sym (twice ms _ _ _ c.entries-files.ensures c.entries-launches.ensures c.has_two_names.ensures) ∙ c.if-has_two_names.false)
     (sym (without ms _ _ _ c.entries-files.ensures c.entries-launches.ensures c.has_no_file.ensures) ∙ c.if-has_no_file.true))
-
--- what a launch's steps say of all of them
-counted : (ms : Members) (launches : List Value) (b : Bool) → map view launches ≡ launches_at ms → b ≡ list_any (λ l. is_miscounted (view l)) launches
-    → b ≡ list_any is_miscounted (launches_at ms)
-counted ms launches b launches_are h = rw (← launches_are, list_any_map is_miscounted view launches) h
-
-one_miscounted : (ds : List Data) → list_any is_miscounted ds ≡ true → has_bad_steps ds ≡ true
-one_miscounted ds e = rw e refl
 
 one_misnamed : (ds : List Data) → list_any is_miscounted ds ≡ false → list_any is_misnamed ds ≡ true → has_bad_steps ds ≡ true
 one_misnamed ds none e = rw (none, e) refl

@@ -15,6 +15,7 @@ returns c =
     none_lowest _ _ _ c.lowest.result c.in_ok-found.ensures c.lowest.ensures (sym c.is_some.ensures ∙ c.if-is_some.false) in
     found_in_names _ _ _ c.in-Err.fault none
     (not_memory _ _ c.in_ok-faults_of_names-in-Err.ensures.own c.in-Err.ensures) c.in_ok-faults_of_names-in-Err.ensures.least
+    c.in_ok-faults_of_names-in-Err.ensures.names
 
 pub returns-in-Ok : goal.returns-in-Ok
 returns-in-Ok c =
