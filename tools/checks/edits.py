@@ -1,24 +1,22 @@
 #!/usr/bin/env python3
 """Tries the broken edits of crates/*/must-fail and crates/*/edits. The prover must refuse each of them.
 
-    tools/checks/edits.py [--jobs N] [NAME..]   tries the edits of all crates, or of these, whose record is out of date
-    tools/checks/edits.py --all [--jobs N]      tries every edit again
-    tools/checks/edits.py --check               status 1 if an edit cannot be made or was changed since it was tried; needs no prover
+    tools/checks/edits.py [NAME..]   tries the edits of all crates, or of these, whose record is out of date
+    tools/checks/edits.py --all      tries every edit again
+    tools/checks/edits.py --check    status 1 if an edit cannot be made, has no record or was changed since it was tried; needs no prover
 
-`rt ci` tries the edits of must-fail in every run. Those of edits are tried here, because each costs a check of its crate. N crates are tried at a
-time (default 1); each may need 5 GB of memory and a proof of every crate below it.
+`./test` tries the edits of must-fail in every run. Those of edits are tried here, because each costs a check of its crate.
 
 tools/checks/edits-tried.tsv is the record: a line per edit with its file, a digest of its text, the commit and the kit with which it was tried, and the
 goal that was not proved. A record is out of date if the edit's text, the kit, or a source of its crate or of a crate below has changed since. An edit gets
 a record only if a goal is not proved. It gets none if the crate is still proved, if the edited text cannot be read, or if all that fails is a proof that
 names what the edit took away, because that says nothing of the contract.
 
-The work is done by `rt must-fail` in a copy of the crates, in ${XDG_CACHE_HOME:-~/.cache}/rim/edits. The copy stays, so that a later run proves only what
-has changed. Everything that is tried must be committed.
+The work is done by `rt ci NAME..` in a temporary copy of the crates, whose must-fail folders hold the edits to try. `rt` keeps what it has proved and tried
+on this machine, so a run that was stopped goes on where it was. Everything that is tried must be committed.
 """
 from __future__ import annotations
 
-import concurrent.futures
 import functools
 import hashlib
 import os
@@ -27,20 +25,15 @@ import re
 import shutil
 import subprocess
 import sys
-from collections.abc import Iterable
+import tempfile
 from dataclasses import dataclass
 
 TOP = pathlib.Path(__file__).resolve().parents[2]
 CRATES = TOP / "crates"
 RECORD = TOP / "tools" / "checks" / "edits-tried.tsv"
-CACHE = pathlib.Path(os.environ.get("XDG_CACHE_HOME") or pathlib.Path.home() / ".cache") / "rim" / "edits"
 # The parts of a crate that the prover reads.
 PARTS = ("src", "specs", "proofs")
-# Whether an edit without a record is a fault of --check. It becomes one when every edit has been tried once.
-NEEDS_RECORD = False
-# Longest time for the edits of one crate, in seconds. It includes proofs of the crates below.
-LONGEST = 4 * 3600
-# What `rt must-fail` prints of an edit: its crate, its file and the outcome.
+# What `rt ci` prints of an edit: its crate, its file and the outcome.
 LINE = re.compile(r"rt: must-fail (\w+)/([\w.-]+): (.*)")
 REFUSED = "refused, as it must be: "
 
@@ -146,20 +139,17 @@ def write_record(record: dict[str, Row]):
 def check() -> int:
     """Prints each edit that cannot be made or was changed since it was tried, and each record without an edit. Returns how many there are."""
     record, edits = read_record(), all_edits()
-    wrong, missing = [], 0
+    wrong = []
     for edit in edits:
         row = record.get(edit.name)
         if why := why_not_made(edit):
             wrong.append(f"{edit.name}: {why}")
         elif row and row.digest != edit.digest:
             wrong.append(f"{edit.name}: it was changed since it was tried, run tools/checks/edits.py {edit.crate}")
-        elif not row and NEEDS_RECORD:
+        elif not row:
             wrong.append(f"{edit.name}: it has no record, run tools/checks/edits.py {edit.crate}")
-        missing += not row
     known = {edit.name for edit in edits}
     wrong += [f"{name}: it has a record, and the file is gone: run tools/checks/edits.py" for name in record if name not in known]
-    if missing:
-        print(f"{missing} of {len(edits)} edits have no record yet: tools/checks/edits.py tries them")
     print(*wrong, sep="\n", end="\n" if wrong else "")
     return len(wrong)
 
@@ -201,38 +191,35 @@ def is_out_of_date(edit: Edit, row: Row | None, kit: str) -> bool:
 # ---- a run
 
 
-def bring_up_to_date(copied: pathlib.Path, source: pathlib.Path):
-    """Makes a file of the copy the same as its source. An unchanged file keeps its time."""
-    if not copied.is_file() or copied.read_bytes() != source.read_bytes():
-        copied.parent.mkdir(parents=True, exist_ok=True)
-        shutil.copyfile(source, copied)
-
-
-def bring_tree_up_to_date(tried: dict[str, list[Edit]]):
-    """Makes the copy of the crates the same as the sources, with these edits to try. What was proved there stays."""
-    wanted = {CACHE / name: TOP / name for name in ("crates.txt", "HANDLES")}
+def copy_crates(folder: pathlib.Path, tried: dict[str, list[Edit]]):
+    """Copies what the prover reads of the crates, with these edits as those that must fail."""
+    for name in ("crates.txt", "HANDLES"):
+        shutil.copyfile(TOP / name, folder / name)
     for name in lower_crates():
-        wanted |= {CACHE / path.relative_to(TOP): path for part in PARTS for path in (CRATES / name / part).rglob("*") if path.is_file()}
-        wanted |= {CACHE / "crates" / name / "must-fail" / edit.path.name: edit.path for edit in tried.get(name, [])}
-    for path in [*CACHE.glob("crates/*/*/**/*"), *CACHE.glob("crates/*/*")]:
-        if path.is_file() and path not in wanted and "out" not in path.relative_to(CACHE).parts:
-            path.unlink()
-    for path, source in wanted.items():
-        bring_up_to_date(path, source)
+        for part in PARTS:
+            if (CRATES / name / part).is_dir():
+                shutil.copytree(CRATES / name / part, folder / "crates" / name / part)
+        for edit in tried.get(name, []):
+            (folder / "crates" / name / "must-fail").mkdir(exist_ok=True)
+            shutil.copyfile(edit.path, folder / "crates" / name / "must-fail" / edit.path.name)
 
 
-def build_libraries(crates: Iterable[str]):
-    """Proves and builds the libraries that these crates use, where they have changed, one after another: `rt must-fail` only reads them then."""
-    for name in dict.fromkeys(below for crate in crates for below in lower_crates()[crate][:-1]):
-        ran = subprocess.run(["rt", "lib"], cwd=CACHE / "crates" / name, stdout=subprocess.PIPE, stderr=subprocess.STDOUT, text=True, errors="replace", timeout=LONGEST)
-        if ran.returncode:
-            raise Fault(f"{name} is not proved without an edit: {(ran.stdout.strip().splitlines() or ['rt printed nothing'])[-1]}")
-
-
-def try_crate(crate: str) -> tuple[str, str]:
-    """Returns a crate and what `rt must-fail` prints of its edits."""
-    ran = subprocess.run(["rt", "must-fail", crate], cwd=CACHE, stdout=subprocess.PIPE, stderr=subprocess.STDOUT, text=True, errors="replace", timeout=LONGEST)
-    return crate, ran.stdout
+def outcomes_of(tried: dict[str, list[Edit]]) -> dict[str, str]:
+    """Returns what `rt ci` prints of these edits, by crate and file, and shows its other lines as they come. An unproved crate is a fault."""
+    found, unproved = {}, ""
+    environment = {name: value for name, value in os.environ.items() if name != "CI"}
+    with tempfile.TemporaryDirectory(prefix="rim-edits-") as folder:
+        copy_crates(pathlib.Path(folder), tried)
+        with subprocess.Popen(["rt", "ci", *tried], cwd=folder, env=environment, stdout=subprocess.PIPE, stderr=subprocess.STDOUT, text=True, errors="replace") as ran:
+            for line in ran.stdout:
+                if match := LINE.match(line):
+                    found[f"{match[1]}/{match[2]}"] = match[3]
+                elif line.startswith("rt: "):
+                    print(line, end="", file=sys.stderr, flush=True)
+                    unproved = unproved or (line.split()[1] if "NOT PROVED" in line else "")
+    if unproved:
+        raise Fault(f"{unproved} is not proved without an edit")
+    return found
 
 
 def goal_of(outcome: str) -> str:
@@ -240,7 +227,7 @@ def goal_of(outcome: str) -> str:
     return " ".join(outcome.removeprefix(REFUSED).removeprefix("note: ").split()) if outcome.startswith(REFUSED) else ""
 
 
-def try_edits(edits: list[Edit], kit: str, jobs: int) -> int:
+def try_edits(edits: list[Edit], kit: str) -> int:
     """Tries edits, prints the outcome of each and keeps the record. Returns how many were not refused."""
     record, commit = read_record(), said("git", "rev-parse", "--short=12", "HEAD")
     known = {edit.name for edit in all_edits()}
@@ -248,23 +235,17 @@ def try_edits(edits: list[Edit], kit: str, jobs: int) -> int:
     tried: dict[str, list[Edit]] = {}
     for edit in edits:
         tried.setdefault(edit.crate, []).append(edit)
-    bring_tree_up_to_date(tried)
-    build_libraries(tried)
+    outcomes = outcomes_of(tried) if tried else {}
     missing = 0
-    with concurrent.futures.ThreadPoolExecutor(jobs) as pool:
-        for done in concurrent.futures.as_completed([pool.submit(try_crate, crate) for crate in tried]):
-            crate, text = done.result()
-            outcomes = {match[2]: match[3] for match in map(LINE.match, text.splitlines()) if match}
-            for edit in tried[crate]:
-                outcome = outcomes.get(edit.path.name, (text.strip().splitlines() or ["rt printed nothing"])[-1])
-                goal = goal_of(outcome)
-                print(f"{'refused' if goal else 'NOT    '} {edit.name}: {goal or outcome}", flush=True)
-                missing += not goal
-                if goal:
-                    record[edit.name] = Row(edit.digest, commit, kit, goal)
-                else:
-                    record.pop(edit.name, None)
-            write_record(record)
+    for edit in edits:
+        outcome = outcomes.get(f"{edit.crate}/{edit.path.name}", "rt printed nothing of it")
+        goal = goal_of(outcome)
+        print(f"{'refused' if goal else 'NOT    '} {edit.name}: {goal or outcome}")
+        missing += not goal
+        if goal:
+            record[edit.name] = Row(edit.digest, commit, kit, goal)
+        else:
+            record.pop(edit.name, None)
     write_record(record)
     print(f"{len(edits) - missing} refused, {missing} not")
     return missing
@@ -273,28 +254,22 @@ def try_edits(edits: list[Edit], kit: str, jobs: int) -> int:
 def main(words: list[str]) -> int:
     if words == ["--check"]:
         return int(check() > 0)
-    has_all, jobs, names = False, 1, []
-    while words:
-        word, *words = words
-        if word == "--all":
-            has_all = True
-        elif word == "--jobs" and words and re.fullmatch(r"[1-9][0-9]?", words[0]):
-            jobs, words = int(words[0]), words[1:]
-        elif word.startswith("-") or word not in lower_crates():
-            raise Fault(f"{word!r}: expected --check, --all, --jobs N or names of crates")
-        else:
-            names.append(word)
+    has_all = "--all" in words
+    names = [word for word in words if word != "--all"]
+    for word in names:
+        if word not in lower_crates():
+            raise Fault(f"{word!r}: expected --check, --all or names of crates")
     if said("git", "status", "--porcelain", "--", "crates", "crates.txt"):
         raise Fault("crates/ has changes that are not committed: a record names the commit that was tried")
     kit, record = said("rt", "version"), read_record()
     edits = [edit for edit in all_edits() if not names or edit.crate in names]
-    return int(try_edits([edit for edit in edits if has_all or is_out_of_date(edit, record.get(edit.name), kit)], kit, jobs) > 0)
+    return int(try_edits([edit for edit in edits if has_all or is_out_of_date(edit, record.get(edit.name), kit)], kit) > 0)
 
 
 if __name__ == "__main__":
     try:
         sys.exit(main(sys.argv[1:]))
-    except (Fault, OSError, UnicodeDecodeError, subprocess.TimeoutExpired) as why:
+    except (Fault, OSError, UnicodeDecodeError) as why:
         print(f"edits.py: {why}", file=sys.stderr)
         sys.exit(3)
     except KeyboardInterrupt:
