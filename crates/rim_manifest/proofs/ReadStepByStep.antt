@@ -15,8 +15,8 @@ use Rattle.rim_manifest.specs.declared.fault.ManifestFault.TheVariants.{BadStep,
 use Rattle.rim_manifest.specs.Faults.{fault_if, lower, lowest}
 use Rattle.rim_manifest.specs.Launches.{ReleaseData}
 use Rattle.rim_manifest.specs.StepTexts.{has_bad_steps, is_miscounted, is_misnamed}
-use Rattle.rim_manifest.specs.Manifest.{document_of, fault_or_named, fault_or_release, files_at, has_no_file, has_two_names, launches_at, launches_of, manifest_faults}
-use Rattle.rim_manifest.specs.Manifest.{manifest_of, name_faults, named_of, paths_of}
+use Rattle.rim_manifest.specs.Manifest.{document_of, fault_or_named, fault_or_release, files_at, has_no_file, has_two_names, launches_at, launches_of}
+use Rattle.rim_manifest.specs.Manifest.{manifest_faults, manifest_of, name_faults, named_of, paths_of}
 
 pub document_read : (b : List ℕ) (ms : Members) → IsUtf8 b → parse_document b ≡ Some ms → document_of b ≡ Some ms
 unfolding document_of
