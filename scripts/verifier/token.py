@@ -1,4 +1,4 @@
-"""The realm's claims of a CCA attestation token. No signature is checked: what is read here is what the bytes say.
+"""The realm's claims of a CCA attestation token. No signature is checked here: what is read is what the bytes say.
 
 Labels and tags are from memory of the CCA token's profile (draft-ffm-rats-cca-token), as docs/VERIFIER.md says of each.
 """
@@ -25,6 +25,8 @@ RPV, HASH, KEY, RIM, REMS, KEY_HASH = 44235, 44236, 44237, 44238, 44239, 44240
 # The names of hash algorithms in claims, and those of rim.
 HASHES = {"sha-256": "sha256", "sha-512": "sha512"}
 LENGTHS = {"sha256": 32, "sha512": 64}
+# The length of a realm's challenge.
+NONCE_BYTES = 64
 # How many parts within parts: a token has four.
 MOST_PARTS = 8
 
@@ -58,6 +60,17 @@ def realm_token(collection: dict) -> object:
     return collection[REALM]
 
 
+def sign1(value: object) -> tuple[bytes, dict, bytes, bytes]:
+    """Returns the parts of a COSE_Sign1: protected header, unprotected header, payload, signature."""
+    if not isinstance(value, list):
+        raise Malformed("it is no COSE_Sign1")
+    if not (len(value) == 4 and isinstance(value[0], bytes) and isinstance(value[1], dict) and isinstance(value[3], bytes)):
+        raise Malformed(f"it has an array of {len(value)}, expected COSE_Sign1: protected, unprotected, payload, signature")
+    if not isinstance(value[2], bytes):
+        raise Malformed("a COSE_Sign1 has no payload")
+    return value[0], value[1], value[2], value[3]
+
+
 def inner(value: object, parts: int = 0) -> dict:
     """Returns the map of the realm's claims: the payload of a COSE_Sign1, the realm token of a CCA token, or a bare map."""
     if parts > MOST_PARTS:
@@ -66,12 +79,7 @@ def inner(value: object, parts: int = 0) -> dict:
     if isinstance(value, bytes):
         return inner(cbor.decoded(value), parts + 1)
     if isinstance(value, list):
-        is_sign1 = len(value) == 4 and isinstance(value[0], bytes) and isinstance(value[1], dict) and isinstance(value[3], bytes)
-        if not is_sign1:
-            raise Malformed(f"it has an array of {len(value)}, expected COSE_Sign1: protected, unprotected, payload, signature")
-        if not isinstance(value[2], bytes):
-            raise Malformed("a COSE_Sign1 has no payload")
-        return inner(value[2], parts + 1)
+        return inner(sign1(value)[2], parts + 1)
     if not isinstance(value, dict):
         raise Malformed("it is no map, no COSE_Sign1 and no bytes of one")
     if PLATFORM in value or REALM in value:
@@ -88,8 +96,8 @@ def claim(claims: dict, label: int, name: str, kind: type) -> object:
     return value
 
 
-def claims_of(value: object) -> Claims:
-    claims = inner(value)
+def claims_of(claims: dict) -> Claims:
+    """Returns what is looked up of the realm's claims."""
     said = claim(claims, HASH, "hash algorithm", str)
     if said not in HASHES:
         raise Malformed(f"its claim {HASH} (hash algorithm) is {visible(str(said)[:40])}, expected {' or '.join(HASHES)}")
@@ -120,6 +128,6 @@ def bytes_of(data: bytes) -> bytes:
 
 def read(data: bytes, path: str) -> Claims:
     try:
-        return claims_of(cbor.decoded(bytes_of(data)))
+        return claims_of(inner(cbor.decoded(bytes_of(data))))
     except Malformed as why:
         raise Fault(f"{visible(path)}: {why}, expected {WHAT}") from None

@@ -212,7 +212,14 @@ RIM_PAGE = script(
     Option(("-o", "--output"), "The file that gets the picture", FILE),
     repeats=True,
 )
-RIM_VERIFY = script("rim-verify", (FILE,), repeats=True)
+RIM_VERIFY = script(
+    "rim-verify", (FILE,),
+    Option(("--cpak",), "A file of attestation keys of the platform", FILE),
+    Option(("--nonce",), "The challenge that you sent, in hexadecimal digits", TEXT),
+    Option(("--no-nonce",), "Accept any challenge"),
+    Option(("--platform",), "Expected values of the platform", FILE),
+    repeats=True,
+)
 RIM_ENDORSE = script(
     "rim-endorse", (FILE,),
     Option(("--vendor",), "The vendor of the class", TEXT),

@@ -133,6 +133,7 @@ Maintainer: $maintainer
 Installed-Size: $(installed_size)
 Depends: python3 (>= 3.9)
 Recommends: python3 (>= 3.11) | python3-tomli
+Suggests: python3-cryptography
 Section: utils
 Priority: optional
 Description: expected measurements of Arm CCA realms
