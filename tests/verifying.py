@@ -11,7 +11,7 @@
 - Tokens of tests/tokens, which ruby-cose made: the valid ones, those that must not be accepted, each with its reason; each byte changed, and
   10,000 damages at random, of which none may be accepted; keys, nonces and platforms that are not those of the token. This needs the package
   `cryptography`.
-- The commands of VERIFIER that go from a release to a verdict.
+- The commands of VERIFIER that go from a release to a verdict, and those for many releases, of which one needs GNU parallel.
 
 PROGRAM measures. The last line is 'N passed, M failed'.
 """
@@ -19,6 +19,7 @@ import base64
 import json
 import os
 import random
+import shutil
 import subprocess
 import sys
 import tomllib
@@ -601,16 +602,44 @@ def without_cryptography(program: str) -> list[str]:
                            (0, f'launch "vm" of r.json has the RIM: sha256 {RIM}\n', UNCHECKED))
 
 
-def walk(program: str) -> list[str]:
-    """The commands of VERIFIER from a release to a verdict print what it says, with status 0."""
-    here, wrong = Folder({}), []
+def checkout(program: str) -> tuple[Folder, str]:
+    """A folder in which the commands of a document run, and its path."""
+    here = Folder({})
     place = os.path.join(here.path, "top")
     os.mkdir(place)
     commands.checkout(place, program)
-    found = commands.of_section("VERIFIER.md", "From a release to a verdict")
-    for command, output in found:
-        wrong += differs(command, commands.run_in(place, command, program), (0, output))
-    return wrong + differs("commands", len(found) > 4, True)
+    return here, place
+
+
+def walk(program: str) -> list[str]:
+    """The commands of VERIFIER from a release to a verdict print what it says, with status 0."""
+    here, place = checkout(program)
+    wrong, found = [], commands.of_section("VERIFIER.md", "From a release to a verdict")
+    with here:
+        for command, status, output in found:
+            wrong += differs(command, commands.run_in(place, command, program), (status, output))
+    return wrong + differs("commands", len(found), 6)
+
+
+def many_releases(program: str) -> list[str]:
+    """Each way of VERIFIER to measure many releases leaves the same reports, which the scripts join."""
+    here, place = checkout(program)
+    first, by_xargs, by_parallel, by_array, *joined = commands.of_section("VERIFIER.md", "Many releases")
+    has_parallel = shutil.which("parallel") is not None
+    if not has_parallel:
+        print("not tried: GNU parallel, which is not installed")
+    names, reports, wrong = ("first", "kernel", "vm"), [], []
+    with here:
+        wrong += differs(first[0], commands.run_in(place, first[0], program), (0, ""))
+        for (command, status, _), tasks in ((by_xargs, "1"), (by_parallel, "1" * has_parallel), (by_array, "123")):
+            ended = [commands.run_in(place, command, program, SLURM_ARRAY_TASK_ID=task) for task in tasks]
+            wrong += differs(command, ended[-1:], [(status, "")] * bool(tasks))
+            reports += [[here.read(f"top/reports/{name}.json") for name in names]] * bool(tasks)
+            for name in names if command != by_array[0] and tasks else ():
+                os.remove(os.path.join(place, "reports", f"{name}.json"))
+        for command, status, output in joined:
+            wrong += differs(command, commands.run_in(place, command, program), (status, output))
+    return wrong + differs("the same reports", all(each == reports[0] for each in reports), True) + differs("commands", len(joined), 2)
 
 
 def has_cryptography() -> bool:
@@ -630,7 +659,7 @@ def all_tries(program: str):
     if has_cryptography():
         for look in (changed_bytes, damages):
             yield look.__name__, look
-        for look in (valid_tokens, not_valid, not_valid_printed, words_of_keys, wrong_files, walk):
+        for look in (valid_tokens, not_valid, not_valid_printed, words_of_keys, wrong_files, walk, many_releases):
             yield look.__name__, lambda look=look: look(program)
 
 
