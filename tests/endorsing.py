@@ -5,6 +5,7 @@
 
 - A report that is written here: its CoMID as JSON; its CoRIM byte for byte as Python's `cbor2` 5.4.6 writes it canonically (made once, with the
   structure written by hand), and as our reader of CBOR reads it.
+- A CoRIM with names and a profile, as `cbor2` reads it, which writes the same bytes canonically. This needs Debian's python3-cbor2.
 - The same reports give the same bytes; launches with one value, several reports, launches that are refused, a report of PROGRAM.
 - Wrong words and faults, outputs that are full, a file that is there.
 
@@ -28,6 +29,7 @@ START = os.path.join(TOP, "rim-endorse")
 SHORT, LONG = bytes(range(32)), bytes(range(64))
 CLASS = "cd1f0e55-26f9-460d-b9d8-f7fde171787c"
 WORDS = ["--vendor", "ACME Ltd", "--class-id", CLASS]
+BARE = [*WORDS, "--no-mkey"]
 # What cbor2 writes of the CoRIM of that report.
 CORIM = bytes.fromhex("""
     d901f5a30050fc096d071f19517a8880391bafdb47190181d901fa590150a30065656e2d474201a20050f2bed4230657527d87f5141c37de4262010004a1008282a2
@@ -58,19 +60,20 @@ def report(launches: list[dict]) -> bytes:
 
 def folder(more: dict[str, bytes] | None = None) -> Folder:
     return Folder({"r.json": report(LAUNCHES), "refused.json": report([*LAUNCHES[:1], REFUSED]), "none.json": report([REFUSED]),
-                   "b.json": report(LAUNCHES[1:2])} | (more or {}))
+                   "b.json": report(LAUNCHES[1:2]), "name.json": report([launch("a b", "sha256", SHORT)])} | (more or {}))
 
 
-def reference_value(word: str, rim: bytes) -> dict:
-    """As cocli's templates for CCA realms have it."""
+def reference_value(word: str, rim: bytes, *names: str) -> dict:
+    """As cocli's templates for CCA realms have it, with the names of the launches."""
+    value = {"value": {"integrity-registers": {"rim": {"key-type": "text", "value": [f"{word};{in_base64(rim)}"]}}}}
     return {"environment": {"class": {"id": {"type": "uuid", "value": CLASS}, "vendor": "ACME Ltd"},
                             "instance": {"type": "bytes", "value": in_base64(rim)}},
-            "measurements": [{"value": {"integrity-registers": {"rim": {"key-type": "text", "value": [f"{word};{in_base64(rim)}"]}}}}]}
+            "measurements": [{"key": {"type": "string", "value": name}} | value for name in names] or [value]}
 
 
 def one_report(_program: str) -> list[str]:
     here = folder()
-    status, out, said = here.run(*WORDS, "--corim", "c.cbor", "r.json", start=START)
+    status, out, said = here.run(*BARE, "--corim", "c.cbor", "r.json", start=START)
     table = json.loads(out)
     identity = table["tag-identity"]
     wrong = differs("status, standard error", (status, said), (0, ""))
@@ -84,12 +87,69 @@ def one_report(_program: str) -> list[str]:
     wrong += differs("what is read back", (outer.number, outer.value[1][0].number, inner[1][0], inner[4][0][0]), (
         501, 506, uuid.UUID(identity["id"]).bytes,
         [{0: {0: Tag(37, uuid.UUID(CLASS).bytes), 1: "ACME Ltd"}, 1: Tag(560, SHORT)}, [{1: {14: {"rim": [[1, SHORT]]}}}]]))
-    wrong += differs("again", here.run(*WORDS, "--corim", "d.cbor", "r.json", start=START), (0, out, ""))
+    wrong += differs("again", here.run(*BARE, "--corim", "d.cbor", "r.json", start=START), (0, out, ""))
     wrong += differs("the same bytes", here.read("d.cbor") == written, True)
     here.put("a.json", report(LAUNCHES[:1]))
-    wrong += differs("two reports", here.run(*WORDS, "a.json", "b.json", start=START), (0, out, ""))
-    other = json.loads(here.run(*WORDS, "b.json", start=START)[1])
+    wrong += differs("two reports", here.run(*BARE, "a.json", "b.json", start=START), (0, out, ""))
+    other = json.loads(here.run(*BARE, "b.json", start=START)[1])
     return wrong + differs("another identity", other["tag-identity"]["id"] != identity["id"], True)
+
+
+# Decodes CBOR by cbor2, and says whether that writes the same bytes. Tags that it makes other objects of are shown as these.
+DECODES = """
+import cbor2, json, sys, uuid
+def plain(value):
+    if isinstance(value, cbor2.CBORTag):
+        return {"tag": value.tag, "value": plain(value.value)}
+    if isinstance(value, uuid.UUID):
+        return {"uuid": str(value)}
+    if isinstance(value, bytes):
+        return {"hex": value.hex()}
+    if isinstance(value, dict):
+        return {str(key): plain(each) for key, each in value.items()}
+    return [plain(each) for each in value] if isinstance(value, list) else value
+data = sys.stdin.buffer.read()
+value = cbor2.loads(data)
+print(json.dumps([plain(value), cbor2.dumps(value, canonical=True) == data]))
+"""
+
+
+def python_with_cbor2() -> str | None:
+    """The path of a Python that has cbor2: this one, or Debian's."""
+    for path in (sys.executable, "/usr/bin/python3"):
+        if os.path.exists(path) and subprocess.run([path, "-c", "import cbor2"], capture_output=True, check=False).returncode == 0:
+            return path
+    return None
+
+
+def by_cbor2(python: str, data: bytes):
+    ran = subprocess.run([python, "-c", DECODES], input=data, capture_output=True, check=True)
+    return json.loads(ran.stdout)
+
+
+def named(_program: str) -> list[str]:
+    """The names of launches are keys of measurements, in JSON and, as cbor2 reads it, in CBOR; and a profile."""
+    here = folder()
+    status, out, said = here.run(*WORDS, "--corim", "c.cbor", "--profile", "tag:example.com,2026:realm#1", "r.json", "b.json", start=START)
+    wrong = differs("status, standard error", (status, said), (0, ""))
+    table = json.loads(out)
+    wrong += differs("JSON", table["triples"]["reference-values"], [reference_value("sha-256", SHORT, "a", "same"), reference_value("sha-512", LONG, "b")])
+    wrong += differs("the identity", table["tag-identity"]["id"] != json.loads(here.run(*BARE, "r.json", start=START)[1])["tag-identity"]["id"], True)
+    python = python_with_cbor2()
+    if python is None:
+        print("not tried: CBOR by another reader, which needs cbor2 (Debian: apt install python3-cbor2)")
+        return wrong
+    outer, is_same = by_cbor2(python, here.read("c.cbor"))
+    wrong += differs("the bytes of cbor2", is_same, True)
+    inner, is_same = by_cbor2(python, bytes.fromhex(outer["value"]["1"][0]["value"]["hex"]))
+    wrong += differs("the bytes of cbor2, of the CoMID", is_same, True)
+    wrong += differs("profile and tags", (outer["tag"], outer["value"]["3"], outer["value"]["1"][0]["tag"], len(outer["value"]["0"]["hex"])),
+                     (501, {"tag": 32, "value": "tag:example.com,2026:realm#1"}, 506, 32))
+    identity = {"0": {"hex": uuid.UUID(table["tag-identity"]["id"]).hex}, "1": 0}
+    values = [[{"0": {"0": {"uuid": CLASS}, "1": "ACME Ltd"}, "1": {"tag": 560, "value": {"hex": rim.hex()}}},
+               [{"0": name, "1": {"14": {"rim": [[number, {"hex": rim.hex()}]]}}} for name in names]]
+              for rim, number, names in ((SHORT, 1, ("a", "same")), (LONG, 8, ("b",)))]
+    return wrong + differs("the CoMID", inner, {"0": "en-GB", "1": identity, "4": {"0": values}})
 
 
 def refusals(program: str) -> list[str]:
@@ -125,6 +185,10 @@ WRONG = [
     (["--vendor", "a"], 2, "0 operands, expected REPORT"), (["--vendor", "", "r.json"], 2, '--vendor: "", expected a name'),
     (["--vendor", "a\nb", "r.json"], 2, '--vendor: "a\\x0ab", expected a name'), (["--vendor", "a" * 201, "r.json"], 2, "expected a name of 1 to 200"),
     (["--class-id", "cd1f", "r.json"], 2, '--class-id: "cd1f", expected a UUID'), (["--class-id", CLASS + "0", "r.json"], 2, "expected a UUID"),
+    ([*WORDS, "--profile", "urn:a", "r.json"], 2, "--profile is given without --corim"), ([*WORDS, "name.json"], 3, 'name.json: a launch has the name "a b"'),
+    ([*WORDS, "--corim", "c", "--profile", "a", "r.json"], 2, '--profile: "a", expected a URI'), ([*WORDS, "--no-mkey=1", "r.json"], 2, "is no option"),
+    ([*WORDS, "--corim", "c", "--profile", "a:\n", "r.json"], 2, '--profile: "a:\\x0a", expected a URI'),
+    ([*WORDS, "--corim", "c", "--profile", "a:" + "b" * 199, "r.json"], 2, "expected a URI of at most 200"),
     (["--vendor", "a", "--vendor", "b", "r.json"], 2, "--vendor is given twice"), (["--all", "r.json"], 2, '"--all" is no option'),
     ([*WORDS, "gone.json"], 3, "gone.json: No such file or directory, expected a report of rim measure --json"),
     ([*WORDS, "/dev/zero"], 3, "/dev/zero: it is a device, expected a report"), ([*WORDS, "fifo"], 3, "fifo: it is a FIFO, expected a report"),
@@ -155,7 +219,7 @@ def words(_program: str) -> list[str]:
 
 
 def all_tries(program: str):
-    for look in (one_report, refusals, personalized, words):
+    for look in (one_report, named, refusals, personalized, words):
         yield look.__name__, lambda look=look: look(program)
 
 

@@ -8,7 +8,7 @@ from __future__ import annotations
 import base64
 import json
 import uuid
-from collections.abc import Sequence
+from collections.abc import Mapping, Sequence
 from dataclasses import dataclass
 
 from comparer.report import Value
@@ -27,7 +27,7 @@ LANGUAGE, IDENTITY, TRIPLES, REFERENCE_VALUES = 0, 1, 4, 0
 TAG_ID, TAG_VERSION = 0, 1
 CLASS_ID, VENDOR = 0, 1
 CLASS, INSTANCE = 0, 1
-VALUES, RAW_VALUE, REGISTERS = 1, 4, 14
+MKEY, VALUES, RAW_VALUE, REGISTERS = 0, 1, 4, 14
 RIM, ENGLISH = "rim", "en-GB"
 
 
@@ -37,6 +37,10 @@ class About:
 
     vendor: str | None
     class_id: uuid.UUID | None
+
+
+# The launches that are endorsed: each value once, with the names of its launches, or without where these are left out.
+Launches = Mapping[Value, Sequence[str]]
 
 
 def in_base64(data: bytes) -> str:
@@ -53,45 +57,48 @@ def class_json(about: About) -> dict:
     return found | ({"vendor": about.vendor} if about.vendor is not None else {})
 
 
-def launch_json(about: About, value: Value) -> dict:
-    """The reference value of a launch. Its RIM tells the environment apart from others, as its instance."""
+def launch_json(about: About, value: Value, names: Sequence[str]) -> dict:
+    """Returns the reference value of launches with one RIM, which is the instance of the environment. Each name has a measurement."""
     rim = in_base64(bytes.fromhex(value.digits))
     registers = {RIM: {"key-type": "text", "value": [f"{HASHES[value.algorithm][0]};{rim}"]}}
     values = {"integrity-registers": registers}
     if has_rpv(value):
         values |= {"raw-value": {"type": "bytes", "value": in_base64(bytes.fromhex(value.rpv))}}
-    return {"environment": {"class": class_json(about), "instance": {"type": "bytes", "value": rim}}, "measurements": [{"value": values}]}
+    keys = [{"key": {"type": "string", "value": name}} for name in names] or [{}]
+    return {"environment": {"class": class_json(about), "instance": {"type": "bytes", "value": rim}},
+            "measurements": [key | {"value": values} for key in keys]}
 
 
-def identifier(about: About, values: Sequence[Value]) -> uuid.UUID:
+def identifier(about: About, launches: Launches) -> uuid.UUID:
     """The identifier of a CoMID, which is made of what it says."""
-    return uuid.uuid5(NAMESPACE, json.dumps([launch_json(about, value) for value in values]))
+    return uuid.uuid5(NAMESPACE, json.dumps([launch_json(about, value, names) for value, names in launches.items()]))
 
 
-def as_json(about: About, values: Sequence[Value]) -> str:
+def as_json(about: About, launches: Launches) -> str:
     """The CoMID as cocli takes it."""
-    table = {"lang": ENGLISH, "tag-identity": {"id": str(identifier(about, values)), "version": 0},
-             "triples": {"reference-values": [launch_json(about, value) for value in values]}}
+    table = {"lang": ENGLISH, "tag-identity": {"id": str(identifier(about, launches)), "version": 0},
+             "triples": {"reference-values": [launch_json(about, value, names) for value, names in launches.items()]}}
     return json.dumps(table, indent=2) + "\n"
 
 
-def launch_cbor(about: About, value: Value) -> list:
+def launch_cbor(about: About, value: Value, names: Sequence[str]) -> list:
     rim = bytes.fromhex(value.digits)
     of_class = {CLASS_ID: Tag(UUID, about.class_id.bytes)} if about.class_id else {}
     of_class |= {VENDOR: about.vendor} if about.vendor is not None else {}
     registers = {RIM: [[HASHES[value.algorithm][1], rim]]}
     values = {REGISTERS: registers} | ({RAW_VALUE: Tag(BYTES, bytes.fromhex(value.rpv))} if has_rpv(value) else {})
-    return [{CLASS: of_class, INSTANCE: Tag(BYTES, rim)}, [{VALUES: values}]]
+    keys = [{MKEY: name} for name in names] or [{}]
+    return [{CLASS: of_class, INSTANCE: Tag(BYTES, rim)}, [key | {VALUES: values} for key in keys]]
 
 
-def as_cbor(about: About, values: Sequence[Value]) -> bytes:
+def as_cbor(about: About, launches: Launches) -> bytes:
     """The CoMID in CBOR."""
-    return encoded({LANGUAGE: ENGLISH, IDENTITY: {TAG_ID: identifier(about, values).bytes, TAG_VERSION: 0},
-                    TRIPLES: {REFERENCE_VALUES: [launch_cbor(about, value) for value in values]}})
+    return encoded({LANGUAGE: ENGLISH, IDENTITY: {TAG_ID: identifier(about, launches).bytes, TAG_VERSION: 0},
+                    TRIPLES: {REFERENCE_VALUES: [launch_cbor(about, value, names) for value, names in launches.items()]}})
 
 
-def corim(about: About, values: Sequence[Value]) -> bytes:
-    """An unsigned CoRIM with that CoMID alone."""
-    inner = as_cbor(about, values)
+def corim(about: About, launches: Launches, profile: str = PROFILE) -> bytes:
+    """An unsigned CoRIM of a profile, with that CoMID alone."""
+    inner = as_cbor(about, launches)
     own = uuid.uuid5(NAMESPACE, inner.hex())
-    return encoded(Tag(CORIM, {CORIM_ID: own.bytes, CORIM_TAGS: [Tag(COMID, inner)], CORIM_PROFILE: Tag(URI, PROFILE)}))
+    return encoded(Tag(CORIM, {CORIM_ID: own.bytes, CORIM_TAGS: [Tag(COMID, inner)], CORIM_PROFILE: Tag(URI, profile)}))

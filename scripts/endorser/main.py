@@ -7,6 +7,7 @@ from collections.abc import Iterator
 from contextlib import contextmanager, nullcontext
 
 from comparer import report
+from comparer.report import Report, Value
 from outside import ending, files
 from outside.faults import Fault, WrongWords
 from outside.stopping import held
@@ -16,28 +17,33 @@ from outside.words import END, VERSION, Known, no_option, walk
 from . import comid
 from .comid import About
 
-# The longest report that is read, and the longest name of a vendor.
-MOST, MOST_VENDOR = 64 << 20, 200
+# The longest report that is read, the longest name of a vendor, and the longest URI.
+MOST, MOST_VENDOR, MOST_URI = 64 << 20, 200, 200
+# What a launch's name and a URI (RFC 3986) consist of.
+NAME, URI = re.compile(r"[A-Za-z0-9._-]{1,64}"), re.compile(r"[A-Za-z][A-Za-z0-9+.-]*:[A-Za-z0-9._~:/?#@!$&'()*+,;=%\[\]-]+")
 
 ABOUT = """rim-endorse: reference values of kept reports, as verifiers of CCA realms take them
 
-usage: rim-endorse [--vendor NAME] [--class-id UUID] [--corim FILE] REPORT..
+usage: rim-endorse [--vendor NAME] [--class-id UUID] [--no-mkey] [--corim FILE [--profile URI]] REPORT..
        rim-endorse --help | --version
 
 REPORT is what `rim measure --json` has written. The launches of all reports are printed as a CoMID in the JSON that `cocli comid create`
-takes: a reference value for each, whose environment has the class and, as its instance, the RIM. Launches with one RIM are one. The same
-reports give the same bytes. What it makes is not signed, and its labels are from memory of drafts: see docs/VERIFIER.md.
+takes: a reference value for each RIM, whose environment has the class and, as its instance, the RIM. The names of its launches are the keys
+(mkey) of its measurements. The same reports give the same bytes. What it makes is not signed, and its labels are from memory of drafts: see
+docs/VERIFIER.md.
 
       --vendor NAME    the vendor of the class; this or --class-id is given
       --class-id UUID  the identifier of the class
+      --no-mkey        leave the names of launches out
       --corim FILE     write an unsigned CoRIM in CBOR too, with the same CoMID; FILE must not be there
+      --profile URI    the profile of the CoRIM, by default http://arm.com/cca/realm/1
   -h, --help           print help
   -V, --version        print the version
 
 Status: 0 each launch has a reference value; 1 some launch is refused and has none; 2 wrong words; 3 a fault.
 """
 ALONE = {"-h": ABOUT, "--help": ABOUT, "-V": f"rim-endorse {VERSION}\n", "--version": f"rim-endorse {VERSION}\n"}
-TAKES = {"--vendor": "a name", "--class-id": "a UUID", "--corim": "a file"}
+TAKES = {"--vendor": "a name", "--class-id": "a UUID", "--no-mkey": "", "--corim": "a file", "--profile": "a URI"}
 KNOWN = Known(dict.fromkeys(ALONE, "") | TAKES, no_option("rim-endorse"))
 
 
@@ -54,6 +60,30 @@ def about_of(given: dict[str, str]) -> About:
     if vendor is None and "--class-id" not in given:
         raise WrongWords("no class is given, expected --vendor or --class-id; see rim-endorse --help")
     return About(vendor, class_id_of(given["--class-id"]) if "--class-id" in given else None)
+
+
+def profile_of(given: dict[str, str]) -> str:
+    uri = given.get("--profile", comid.PROFILE)
+    if len(uri) > MOST_URI or not URI.fullmatch(uri):
+        raise WrongWords(f"--profile: {shown(uri)}, expected a URI of at most {MOST_URI} characters")
+    if "--profile" in given and "--corim" not in given:
+        raise WrongWords("--profile is given without --corim, which has it")
+    return uri
+
+
+def launches_of(reports: list[tuple[str, Report]], has_names: bool) -> comid.Launches:
+    """Returns each value of the reports with the names of its launches, if these are wanted."""
+    found: dict[Value, list[str]] = {}
+    for path, each in reports:
+        for name, value in each.launches.items():
+            if value.refused:
+                continue
+            names = found.setdefault(value, [])
+            if has_names and not NAME.fullmatch(name):
+                raise Fault(f"{visible(path)}: a launch has the name {shown(name)}, expected one that a manifest may have")
+            if has_names and name not in names:
+                names.append(name)
+    return found
 
 
 @contextmanager
@@ -89,16 +119,16 @@ def run(words: list[str]) -> int:
     if not operands:
         raise WrongWords("0 operands, expected REPORT; see rim-endorse --help")
     given = {option: value for option, value in said if option in TAKES}
-    about = about_of(given)
+    about, profile = about_of(given), profile_of(given)
     reports = [(path, report.read(files.read(path, MOST, report.WHAT), path)) for path in operands]
     refused = [(path, name, value) for path, each in reports for name, value in each.launches.items() if value.refused]
-    values = list(dict.fromkeys(value for _, each in reports for value in each.launches.values() if not value.refused))
-    if not values:
+    launches = launches_of(reports, "--no-mkey" not in given)
+    if not launches:
         raise Fault("no launch has a RIM, expected one")
-    with new_file(given["--corim"], comid.corim(about, values)) if "--corim" in given else nullcontext():
+    with new_file(given["--corim"], comid.corim(about, launches, profile)) if "--corim" in given else nullcontext():
         for path, name, value in refused:
             print(f"rim-endorse: launch {quoted(name)} of {visible(path)} is refused ({value.refused}) and has no reference value", file=sys.stderr)
-        print(comid.as_json(about, values), end="", flush=True)
+        print(comid.as_json(about, launches), end="", flush=True)
     return int(bool(refused))
 
 

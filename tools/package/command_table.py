@@ -224,7 +224,9 @@ RIM_ENDORSE = script(
     "rim-endorse", (FILE,),
     Option(("--vendor",), "The vendor of the class", TEXT),
     Option(("--class-id",), "The identifier of the class", TEXT),
+    Option(("--no-mkey",), "Leave the names of launches out"),
     Option(("--corim",), "Write an unsigned CoRIM in CBOR too", FILE),
+    Option(("--profile",), "The profile of the CoRIM", TEXT),
     repeats=True,
 )
 SCRIPTS = (RIM_MATCH, RIM_COMPARE, RIM_PAGE, RIM_VERIFY, RIM_ENDORSE)
