@@ -7,18 +7,22 @@
   structure written by hand), and as our reader of CBOR reads it.
 - A CoRIM with names and a profile, as `cbor2` reads it, which writes the same bytes canonically. This needs Debian's python3-cbor2.
 - The same reports give the same bytes; launches with one value, several reports, launches that are refused, a report of PROGRAM.
+- An in-toto statement, with the digests that Python computes of the files; the example for CI, by the lines of both of its jobs.
 - Wrong words and faults, outputs that are full, a file that is there.
 
 The last line is 'N passed, M failed'.
 """
 import base64
+import hashlib
 import json
 import os
+import re
 import subprocess
 import sys
 import uuid
 
 from helpers import TOP
+from helpers.commands import checkout, run_in
 from helpers.folders import Folder
 from helpers.tries import at_a_time, differs, program_of, told
 
@@ -180,7 +184,73 @@ def personalized(program: str) -> list[str]:
     return wrong + differs("in CBOR", [each[1][0][1].get(4) for each in inner[4][0]], [None, Tag(560, b"\xab" * 64)])
 
 
+def digest_of(path: str) -> str:
+    with open(os.path.join(TOP, path), "rb") as file:
+        return hashlib.sha256(file.read()).hexdigest()
+
+
+def in_toto(program: str) -> list[str]:
+    """A statement's subjects are the manifest and its files; its predicate is the report."""
+    here = folder()
+    ran = subprocess.run([program, "measure", "--json", "examples/vm/manifest.toml"], cwd=TOP, capture_output=True, check=False)
+    here.put("m.json", ran.stdout)
+    status, out, said = here.run("--in-toto", "m.json", start=START)
+    paths = [f"examples/vm/{name}" for name in ("Image", "initrd.img", "virt.dtb", "manifest.toml")]
+    expected = {"_type": "https://in-toto.io/Statement/v1", "subject": [{"name": path, "digest": {"sha256": digest_of(path)}} for path in paths],
+                "predicateType": "urn:rim:report:4", "predicate": json.loads(ran.stdout)}
+    wrong = differs("a launch that is refused", (status, said), (
+        1, 'rim-endorse: launch "initrd-in-the-kernel" of m.json is refused (overlap) and has no reference value\n'))
+    wrong += differs("the statement", json.loads(out), expected)
+    older = json.loads(report(LAUNCHES)) | {"files": [{"path": "Image", "bytes": 1, "sha256": "ab" * 32}]}
+    here.put("older.json", json.dumps(older).encode())
+    status, out, said = here.run("--in-toto", "older.json", start=START)
+    wrong += differs("version 3", (status, said, json.loads(out)["subject"], json.loads(out)["predicateType"]),
+                     (0, "", [{"name": "Image", "digest": {"sha256": "ab" * 32}}], "urn:rim:report:3"))
+    with open(os.path.join(TOP, "docs", "report.schema.json"), encoding="utf-8") as file:
+        return wrong + differs("the schema", json.load(file)["$id"], expected["predicateType"])
+
+
+def job_of(name: str) -> tuple[str, dict[str, str]]:
+    """The command and the variables of a job of examples/ci: its lines are plain, so that no reader of YAML is needed."""
+    with open(os.path.join(TOP, "examples", "ci", name), encoding="utf-8") as file:
+        text = file.read()
+    commands = re.findall(r"- (?:run: )?(examples/.*)", text)
+    return commands[0] if len(commands) == 1 else "", dict(re.findall(r"(RIM_[A-Z]+): (.*)", text))
+
+
+def in_ci(program: str) -> list[str]:
+    """Each job of examples/ci runs; it fails where a value is not the kept one, and installs what is missing."""
+    wrong = differs("the jobs", job_of("github.yml"), job_of("gitlab.yml"))
+    command, variables = job_of("github.yml")
+    here = folder({"installs/apt-get": b'#!/bin/sh\necho "$@" >>said\n'})
+    place = os.path.join(here.path, "top")
+    os.mkdir(place)
+    checkout(place, program)
+    os.chmod(os.path.join(here.path, "installs", "apt-get"), 0o755)
+    path = {"PATH": f"{place}:{os.environ['PATH']}"}
+    made = {"report.json", "changes.txt", "page.html", "realms.cbor", "realms.json", "statement.json"}
+    warning = 'warning: launch "vm": no item of kind "dtb", expected one for Linux to read\n'
+    wrong += differs("as it is", run_in(place, command, program, **path, **variables), (0, warning))
+    wrong += differs("what is made", set(os.listdir(os.path.join(place, "realms"))), made)
+    kept = json.loads(here.read("top/examples/ci/kept.json"))
+    wrong += differs("the report", json.loads(here.read("top/realms/report.json"))["launches"], kept["launches"])
+    kept["launches"][0]["rim"] = "00" * 32
+    here.put("kept.json", json.dumps(kept).encode())
+    other = command.replace("examples/ci/kept.json", "../kept.json").replace("realms", "again")
+    status, said = run_in(place, other, program, **path, **variables)
+    wrong += differs("another value", (status, said.startswith(f'{warning}launch "vm" has another value: sha256 '),
+                                       set(os.listdir(os.path.join(place, "again")))), (1, True, made))
+    installs = {"PATH": f"{here.path}/installs:/usr/bin:/bin"}
+    if not any(os.path.exists(os.path.join(each, "rim")) for each in ("/usr/bin", "/bin")):
+        status, _ = run_in(place, command.replace("realms", "third"), program, **installs, **variables)
+        wrong += differs("what is installed", (status, here.read("top/said")), (127, b"-q update\n-q -y install ./rim.deb\n"))
+    return wrong
+
+
 WRONG = [
+    (["--in-toto"], 2, "0 operands, expected REPORT"), (["--in-toto", "r.json", "b.json"], 2, "expected one REPORT alone"),
+    (["--in-toto", "--vendor", "a", "r.json"], 2, "--in-toto is given with another option"), (["--in-toto", "r.json"], 3, "r.json: it has no file with a digest"),
+    (["--in-toto", "fifo"], 3, "fifo: it is a FIFO, expected a report"), (["--in-toto", "Image"], 3, "Image: it is no UTF-8"),
     ([], 2, "usage: rim-endorse"), (["r.json"], 2, "no class is given, expected --vendor or --class-id"),
     (["--vendor", "a"], 2, "0 operands, expected REPORT"), (["--vendor", "", "r.json"], 2, '--vendor: "", expected a name'),
     (["--vendor", "a\nb", "r.json"], 2, '--vendor: "a\\x0ab", expected a name'), (["--vendor", "a" * 201, "r.json"], 2, "expected a name of 1 to 200"),
@@ -219,7 +289,7 @@ def words(_program: str) -> list[str]:
 
 
 def all_tries(program: str):
-    for look in (one_report, named, refusals, personalized, words):
+    for look in (one_report, named, refusals, personalized, in_toto, in_ci, words):
         yield look.__name__, lambda look=look: look(program)
 
 

@@ -14,7 +14,7 @@ from outside.stopping import held
 from outside.texts import quoted, shown, visible
 from outside.words import END, VERSION, Known, no_option, walk
 
-from . import comid
+from . import comid, in_toto
 from .comid import About
 
 # The longest report that is read, the longest name of a vendor, and the longest URI.
@@ -25,6 +25,7 @@ NAME, URI = re.compile(r"[A-Za-z0-9._-]{1,64}"), re.compile(r"[A-Za-z][A-Za-z0-9
 ABOUT = """rim-endorse: reference values of kept reports, as verifiers of CCA realms take them
 
 usage: rim-endorse [--vendor NAME] [--class-id UUID] [--no-mkey] [--corim FILE [--profile URI]] REPORT..
+       rim-endorse --in-toto REPORT
        rim-endorse --help | --version
 
 REPORT is what `rim measure --json` has written. The launches of all reports are printed as a CoMID in the JSON that `cocli comid create`
@@ -37,13 +38,14 @@ docs/VERIFIER.md.
       --no-mkey        leave the names of launches out
       --corim FILE     write an unsigned CoRIM in CBOR too, with the same CoMID; FILE must not be there
       --profile URI    the profile of the CoRIM, by default http://arm.com/cca/realm/1
+      --in-toto        print the report as an in-toto statement about its manifests and files, for a signer of DSSE
   -h, --help           print help
   -V, --version        print the version
 
 Status: 0 each launch has a reference value; 1 some launch is refused and has none; 2 wrong words; 3 a fault.
 """
 ALONE = {"-h": ABOUT, "--help": ABOUT, "-V": f"rim-endorse {VERSION}\n", "--version": f"rim-endorse {VERSION}\n"}
-TAKES = {"--vendor": "a name", "--class-id": "a UUID", "--no-mkey": "", "--corim": "a file", "--profile": "a URI"}
+TAKES = {"--vendor": "a name", "--class-id": "a UUID", "--no-mkey": "", "--corim": "a file", "--profile": "a URI", "--in-toto": ""}
 KNOWN = Known(dict.fromkeys(ALONE, "") | TAKES, no_option("rim-endorse"))
 
 
@@ -103,6 +105,24 @@ def new_file(path: str, data: bytes) -> Iterator[None]:
         raise
 
 
+def said_refused(reports: list[tuple[str, Report]]) -> bool:
+    """Says which launches are refused, and returns whether some are."""
+    refused = [(path, name, value) for path, each in reports for name, value in each.launches.items() if value.refused]
+    for path, name, value in refused:
+        print(f"rim-endorse: launch {quoted(name)} of {visible(path)} is refused ({value.refused}) and has no reference value", file=sys.stderr)
+    return bool(refused)
+
+
+def run_in_toto(given: dict[str, str], operands: list[str]) -> int:
+    if len(given) > 1 or len(operands) != 1:
+        raise WrongWords("--in-toto is given with another option or several reports, expected one REPORT alone")
+    path = operands[0]
+    text, found = in_toto.statement(files.read(path, MOST, report.WHAT), path)
+    is_refused = said_refused([(path, found)])
+    print(text, end="")
+    return int(is_refused)
+
+
 def run(words: list[str]) -> int:
     if not words:
         print(ABOUT, end="", file=sys.stderr)
@@ -119,17 +139,17 @@ def run(words: list[str]) -> int:
     if not operands:
         raise WrongWords("0 operands, expected REPORT; see rim-endorse --help")
     given = {option: value for option, value in said if option in TAKES}
+    if "--in-toto" in given:
+        return run_in_toto(given, operands)
     about, profile = about_of(given), profile_of(given)
     reports = [(path, report.read(files.read(path, MOST, report.WHAT), path)) for path in operands]
-    refused = [(path, name, value) for path, each in reports for name, value in each.launches.items() if value.refused]
     launches = launches_of(reports, "--no-mkey" not in given)
     if not launches:
         raise Fault("no launch has a RIM, expected one")
     with new_file(given["--corim"], comid.corim(about, launches, profile)) if "--corim" in given else nullcontext():
-        for path, name, value in refused:
-            print(f"rim-endorse: launch {quoted(name)} of {visible(path)} is refused ({value.refused}) and has no reference value", file=sys.stderr)
+        is_refused = said_refused(reports)
         print(comid.as_json(about, launches), end="", flush=True)
-    return int(bool(refused))
+    return int(is_refused)
 
 
 def main(words: list[str]) -> int:

@@ -227,6 +227,7 @@ RIM_ENDORSE = script(
     Option(("--no-mkey",), "Leave the names of launches out"),
     Option(("--corim",), "Write an unsigned CoRIM in CBOR too", FILE),
     Option(("--profile",), "The profile of the CoRIM", TEXT),
+    Option(("--in-toto",), "Print the report as an in-toto statement"),
     repeats=True,
 )
 SCRIPTS = (RIM_MATCH, RIM_COMPARE, RIM_PAGE, RIM_VERIFY, RIM_ENDORSE)
