@@ -5,6 +5,7 @@
 
 - Changes: PROGRAM makes the report of a manifest, the manifest or a file is changed here, and rim-compare has to print the lines that are
   written here. Values in them are those of `rim measure`, digests of files those of Python's hashlib.
+- Launches that changed for one cause: it is said once.
 - Several manifests: the script that joins their reports, and what rim-compare says of what it writes; what misbehaves, and signals.
 - Two reports, reports of versions 1 and 2, another program, reports that are none, wrong words and faults, an installed rim-compare, its
   man page.
@@ -153,6 +154,30 @@ def change(program: str, launches: list[str], paths: dict[str, str], files: dict
 
 
 # ---- reports
+
+
+def one_cause(program: str) -> list[str]:
+    """What differs in the same way in several launches is said once, below all of them; what is of one of them is below its own line."""
+    item = ITEM % ("one", "")
+    before = [launch(name, RAM, item) for name in "pqst"] + [launch("r"), launch("u", RAM, item.replace("one", "two"))]
+    after = [launch("p", RAM, item), launch("q", RAM, item), launch("s", "num_bps = 5", RAM, item), launch("t", "num_wps = 7", RAM, item),
+             launch("r", "num_bps = 5"), before[5]]
+    here = folder({"m.toml": manifest(before, PATHS)})
+    was = values(program, here)
+    keep(program, here)
+    here.put("one", OTHER)
+    here.put("m.toml", manifest(after, PATHS))
+    now = values(program, here)
+    head = {name: f'launch "{name}" has another value: {now[name]}, was {was[name]}' for name in "pqstr"}
+    file = f'item "i", sha256: {digest(OTHER)}, was {digest(FILES["one"])}'
+    expected = [head["p"], head["q"], head["t"], "  parameter num_wps: 7, was 0", f"  each of these 3 launches: {file}",
+                head["s"], "  parameter num_bps: 5, was 0", f"  {file}", head["r"], "  parameter num_bps: 5, was 0",
+                f'file "one" has other contents: {content(OTHER)}, was {content(FILES["one"])}']
+    wrong = differs("lines", here.run("kept.json", "m.toml", start=START, RIM=program), (1, "".join(line + "\n" for line in expected), ""))
+    table = json.loads(here.run("--json", "kept.json", "m.toml", start=START, RIM=program)[1])
+    inputs = [[each["what"] for each in one["inputs"]] for one in table["differences"] if one["of"] == "launch"]
+    return wrong + differs("JSON", inputs, [['item "i", sha256']] * 2 + [["parameter num_bps", 'item "i", sha256'], ["parameter num_wps", 'item "i", sha256'],
+                                                                       ["parameter num_bps"]])
 
 
 def report(program: str, here: Folder) -> dict:
@@ -573,7 +598,7 @@ def documents(_program: str) -> list[str]:
 def all_tries(program: str):
     for name, launches, paths, changed, lines in CHANGES:
         yield name, lambda launches=launches, paths=paths, changed=changed, lines=lines: change(program, launches, paths, changed, lines)
-    for look in (command_lines, joined, of_folders, of_schema, misbehaving, signals, versions, programs, malformed, words, faults, installed,
+    for look in (one_cause, command_lines, joined, of_folders, of_schema, misbehaving, signals, versions, programs, malformed, words, faults, installed,
                  outputs, documents):
         yield look.__name__, lambda look=look: look(program)
 

@@ -3,7 +3,7 @@ from __future__ import annotations
 
 import enum
 from collections import Counter
-from collections.abc import Callable, Iterator, Mapping
+from collections.abc import Callable, Iterator, Mapping, Sequence
 from dataclasses import dataclass, replace
 from typing import Union
 
@@ -186,6 +186,35 @@ def differences(was: Report, now: Report) -> Iterator[Difference]:
         yield with_inputs(each, was, now)
     if was.files is not None and now.files is not None:
         yield from of_all("file", was.files, now.files, of_content)
+
+
+@dataclass(frozen=True)
+class Group:
+    """Launches that changed for one cause: what differs in the same way in all of them, and nowhere else. Any other difference is alone."""
+
+    members: tuple[Difference, ...]
+    shared: tuple[Input, ...] = ()
+
+    def own(self, each: Difference) -> tuple[Input, ...] | None:
+        """What differs of a member alone."""
+        return each.inputs and tuple(one for one in each.inputs if one not in self.shared)
+
+    @property
+    def lines(self) -> list[str]:
+        """The lines of its members, then what all of them share."""
+        if not self.shared:
+            return self.members[0].lines
+        found = [line for each in self.members for line in (each.lines[0], *(one.line for one in self.own(each) or ()))]
+        return found + [f"  each of these {len(self.members)} launches:{one.line[1:]}" for one in self.shared]
+
+
+def groups(found: Sequence[Difference]) -> list[Group]:
+    """All differences, with those of one cause together at the place of the first. A cause is what differs in the same way in several launches."""
+    counts = Counter(one for each in found for one in each.inputs or ())
+    made: dict[object, list[Difference]] = {}
+    for number, each in enumerate(found):
+        made.setdefault(tuple(one for one in each.inputs or () if counts[one] > 1) or number, []).append(each)
+    return [Group(tuple(some), cause if isinstance(cause, tuple) and len(some) > 1 else ()) for cause, some in made.items()]
 
 
 def notes(was: Report, now: Report) -> list[str]:

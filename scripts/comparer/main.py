@@ -26,8 +26,8 @@ usage: rim-compare [--json] [--kept REPORT].. REPORT OTHER..
 
 REPORT is what `rim measure --json` has written. OTHER is another one, a manifest, of which `rim` makes the report now, or a folder that
 rim-manifest has made; several are taken as one. A line is printed for each launch that has another value, is refused or accepted now, has
-another name or personalization value, is new or gone; lines with two spaces before them say what of all that it is made of differs. Then
-comes one for each file that has other contents, has another name, is new or gone. Reports of versions 1 and 2 have no files, so that values
+another name or personalization value, is new or gone; lines with two spaces before them say what of all that it is made of differs. What differs in
+the same way in several launches is said once, below all of them. Then comes one for each file that has other contents, has another name, is new or gone. Reports of versions 1 and 2 have no files, so that values
 alone are compared, and those below version 4 do not say what launches are made of. Another version of `rim` is said and is no difference.
 The program is the one that the variable RIM names, or `rim` beside this one, or of the PATH.
 
@@ -95,7 +95,7 @@ def run(words: list[str]) -> int:
     if any(option == "--json" for option, _ in said):
         print(json.dumps({"version": JSON_VERSION, "notes": noted, "differences": [each.table for each in found]}))
     else:
-        print("\n".join(line for each in found for line in each.lines), end="\n" * bool(found))
+        print("\n".join(line for each in differ.groups(found) for line in each.lines), end="\n" * bool(found))
     return int(bool(found))
 
 
