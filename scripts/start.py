@@ -21,7 +21,7 @@ SCRIPTS = {
     "rim-manifest": (("vmm", "main"), ("finder", "search"), ("outside", "ending")),
     "rim-match": (("matcher", "main"), ("finder", "search"), ("comparer", "report"), ("outside", "ending")),
     "rim-compare": (("comparer", "main"), ("outside", "ending")),
-    "rim-page": (("page", "main"), ("comparer", "report"), ("finder", "progress"), ("matcher", "nearest"), ("outside", "ending")),
+    "rim-page": (("page", "main"), ("comparer", "report"), ("endorser", "comid"), ("finder", "progress"), ("matcher", "nearest"), ("outside", "ending")),
     "rim-verify": (("verifier", "main"), ("comparer", "report"), ("outside", "cbor")),
     "rim-endorse": (("endorser", "main"), ("comparer", "report"), ("outside", "cbor")),
 }

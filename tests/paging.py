@@ -6,6 +6,7 @@
 - Each page is read by a grammar: elements end as they began, ids are there once, links lead to one, heads of tables have a scope, nothing is asked of
   anybody, the policy names the digests of the page's own style and script, and no attribute has a text of a manifest.
 - Its values are those that PROGRAM measures, and no others; where a manifest is at fault there is none. The same input gives the same bytes.
+- What is to be signed has the page's values, or there is no page. What rim-manifest has recorded of the machine is on it.
 - Texts of others: marks of HTML, characters that nobody sees, ten thousand characters. Kept reports, two launches side by side, pictures by the
   launchers, which are copied for that. 1,024 launches in a page.
 - Files that change meanwhile, programs that misbehave, odd files, full disks, signals, wrong words.
@@ -32,6 +33,7 @@ from helpers.files import image, tree
 from helpers.folders import Folder
 from helpers.tries import at_a_time, differs, program_of, told
 
+from outside import cbor
 from outside.rim import Rim
 from page import reading, release_page, style
 
@@ -160,6 +162,11 @@ def values(here: Folder, program: str, path: str) -> dict[str, str]:
     return dict(line.split(" ", 1) for line in ran.stdout.splitlines()[1:-1])
 
 
+def report_of(here: Folder, program: str, path: str) -> bytes:
+    """The report that PROGRAM makes of a manifest."""
+    return subprocess.run([program, "measure", "--json", path], cwd=here.path, capture_output=True, check=False).stdout
+
+
 # ---- releases
 
 
@@ -169,11 +176,12 @@ def release(program: str) -> list[str]:
         page, wrong = made(here, program, EXAMPLE, status=1)
         known = values(here, program, EXAMPLE)
         digests = [hashlib.sha256(here.read(path)).hexdigest() for path in (EXAMPLE, "examples/vm/Image", "examples/vm/initrd.img", "examples/vm/virt.dtb")]
+        digests.append(hashlib.sha256(report_of(here, program, EXAMPLE)).hexdigest())
     rows = {text.split("examples/vm/Image")[0]: text for text in page.texts["tr"] if text.split("examples/vm/Image")[0] in known}
     wrong += differs("rows", list(rows), list(known))
     for name, value in known.items():
         shown = value.replace("refused ", "sha256refused: ") if "refused" in value else value.replace(" ", "")
-        wrong += [] if shown in rows.get(name, "") else [f"{name}: {value} is not in {rows.get(name)!r}"]
+        wrong += [] if shown in rows.get(name, "") and "examples/vm/initrd.img" in rows[name] else [f"{name}: {value} is not in {rows.get(name)!r}"]
     rims = sorted(value.split(" ")[1] for value in known.values() if "refused" not in value)
     shown = sorted(each for each in page.digits if each in rims)
     wrong += differs("each value twice", shown, sorted(rims * 2))
@@ -181,7 +189,7 @@ def release(program: str) -> list[str]:
     wrong += differs("other digits", len(trees), 1) + [f"{each} is missing" for each in digests if each not in page.digits]
     wrong += differs("the order", page.texts["h2"], ["A launch is refused and has no value", "Warnings: what is rarely meant", "Launches", "Files",
                                                      "How to read a map", "Each launch"])
-    wrong += missing(page, "initrd-in-the-kernel: overlap: items", 'item "dtb": processors in /cpus: 1, expected 2, one for each REC: two-vcpus, two-vcpus')
+    wrong += missing(page, '"initrd" 0x40300000 to 0x4030232d: initrd-in-the-kernel', 'item "dtb": processors in /cpus: 1, expected 2, one for each REC: two-vcpus, two-vcpus')
     maps = [title for title in page.texts["title"] if title.startswith("Map of ")]
     return wrong + differs("maps", len(maps), 4) + differs("the bar", page.text.count("The measurement has 139 extensions"), 3)
 
@@ -250,6 +258,113 @@ def before(program: str) -> list[str]:
         here.put("m.toml", here.read("was.toml"))
         page, more = made(here, program, "--before", "kept.json", "m.toml")
         return wrong + more + missing(page, "Nothing: each launch has the value that it had")
+
+
+def joined(program: str) -> list[str]:
+    """Refusals with one cause are one line, and so are launches that changed for one cause."""
+    bad = [launch(f"bad{n}", f"n={n}", end=0x40500000) for n in range(3)]
+    with folder({"m.toml": manifest(launch("a"), launch("b", "noisy"), *bad, launch("c", "third"))}) as here:
+        here.put("kept.json", report_of(here, program, "m.toml"))
+        here.put("kernel", FILES["kernel"][:-1] + b"\1")
+        here.put("m.toml", here.read("m.toml").replace(b'name = "c"', b'num_wps = 7\nname = "c"'))
+        page, wrong = made(here, program, "--before", "kept.json", "m.toml", status=1)
+    lines = [each for each in page.texts["li"] if "bad0" in each]
+    wrong += [f"refusals: {lines}"] * (len(lines) != 1 or not lines[0].endswith(": bad0, bad1, bad2") or not lines[0].startswith("outside-ram: "))
+    said = page.text.split("What changed since kept.json")[1].split("Search the launches")[0]
+    wrong += differs("changes", (said.count('item "kernel", sha256: '), said.count("a, b, c: each has another value, for one cause")), (1, 1))
+    return wrong + [f"what is of one launch: {said!r}"] * ("c: parameter num_wps: 7, was 0" not in said)
+
+
+def signed(program: str) -> list[str]:
+    """What is to be signed has exactly the values of the page, which has its digest; else there is no page."""
+    with folder({"n.toml": manifest(launch("a"), launch("b", "noisy", "sha512"), launch("c", more=f"rpv = '{'ab' * 64}'"), launch("d", end=0x40500000))}) as here:
+        here.put("r.json", report_of(here, program, "n.toml"))
+        for name, *words in (("s.json", "--in-toto"), ("c.json", "--vendor", "a", "--corim", "c.cbor"), ("b.json", "--vendor", "a", "--no-mkey", "--corim", "b.cbor")):
+            here.put(name, here.run(*words, "r.json", start=os.path.join(TOP, "rim-endorse"))[1].encode())
+        names = ("r.json", "s.json", "c.cbor", "b.cbor")
+        page, wrong = made(here, program, *(word for name in names for word in ("--signed", name)), "n.toml", status=1)
+        wrong += [f"the digest of {name} is missing" for name in names if hashlib.sha256(here.read(name)).hexdigest() not in page.digits]
+        wrong += differs("kinds", [row for row in page.texts["tr"] if "unsigned CoRIM" in row or "in-toto statement" in row] != [], True)
+        for name, data, text in others(here):
+            here.put("other", data)
+            came = here.run("--out", "page.html", "--signed", "other", "n.toml", start=START, RIM=program)
+            if (came[0], came[1], came[2].startswith(f"rim-page: other: {text}"), came[2].count("\n"), "page.html" in here.names()) != (3, "", True, 1, False):
+                wrong.append(f"{name}: {came}, expected {text!r}")
+        page, more = made(here, program, "--signed", "other", "at-fault.toml", status=3, said="rim-page: at-fault.toml: it is at fault, so the page has no values\n")
+        return wrong + more
+
+
+def others(here: Folder) -> list[tuple[str, bytes, str]]:
+    """Files that have not the values of the page, and what is said of each."""
+    report, statement = json.loads(here.read("r.json")), json.loads(here.read("s.json"))
+    launches = report["launches"]
+    outer = cbor.decoded(here.read("c.cbor"))
+    inner = cbor.decoded(outer.value[1][0].value)
+    triples = inner[4][0]
+
+    def corim(some: list, more: dict | None = None) -> bytes:
+        return cbor.encoded(cbor.Tag(501, outer.value | {1: [cbor.Tag(506, cbor.encoded(inner | {4: {0: some} | (more or {})}))]}))
+
+    def changed(value: dict) -> list:
+        return [[triples[0][0], [triples[0][1][0] | {1: value}]], *triples[1:]]
+
+    rim = triples[0][0][1].value
+    unlike, malformed = "it has %d values that the page does not have, and lacks %d", "it is no unsigned CoRIM as rim-endorse writes it"
+    return [("a value", json.dumps(report | {"launches": [launches[0] | {"rim": "00" * 32}, *launches[1:]]}).encode(), 'launch "a" is not as on the page'),
+            ("a launch less", json.dumps(report | {"launches": launches[:2] + launches[3:]}).encode(), 'launch "c" is not as on the page'),
+            ("a launch more", json.dumps(report | {"launches": [*launches, launches[0] | {"name": "e"}]}).encode(), 'launch "e" is not as on the page'),
+            ("another refusal", json.dumps(report | {"launches": [*launches[:3], launches[3] | {"refused": "overlap"}]}).encode(), 'launch "d" is not'),
+            ("another file", json.dumps(report | {"files": report["files"][:1]}).encode(), "its files are not those of the page"),
+            ("another subject", json.dumps(statement | {"subject": statement["subject"][:1]}).encode(), "it says other things than its report"),
+            ("no report", b"{}", "version is missing"), ("no JSON", b"{", "it is no JSON"), ("a bare array", b"[]", "it "), ("nothing", b"", "it ends within"),
+            ("a CoRIM of another value", corim([[triples[0][0] | {1: cbor.Tag(560, bytes(32))}, [{0: "a", 1: {14: {"rim": [[1, bytes(32)]]}}}]], *triples[1:]]), unlike % (1, 1)),
+            ("a CoRIM with a value less", corim(triples[1:]), unlike % (0, 1)), ("with a value more", corim([*triples, [{1: cbor.Tag(560, bytes(32))},
+             [{0: "e", 1: {14: {"rim": [[1, bytes(32)]]}}}]]]), unlike % (1, 0)),
+            ("another name", corim([[triples[0][0], [triples[0][1][0] | {0: "b"}]], *triples[1:]]), unlike % (1, 1)),
+            ("no personalization value", corim([*triples[:2], [triples[2][0], [{0: "c", 1: {14: triples[2][1][0][1][14]}}]]]), unlike % (1, 1)),
+            ("other triples", corim(triples, {1: []}), malformed), ("another register", changed({14: {"rem": [[1, rim]]}}) and corim(changed({14: {"rem": [[1, rim]]}})),
+             "it has a measurement that is not one of a RIM alone"), ("two digests", corim(changed({14: {"rim": [[1, rim], [1, rim]]}})), malformed),
+            ("another hash", corim(changed({14: {"rim": [[2, rim]]}})), "it has a measurement that is not"), ("more of a measurement", corim(changed(
+                {14: {"rim": [[1, rim]]}, 0: 1})), "it has a measurement that is not"), ("another instance", corim(changed({14: {"rim": [[1, bytes(32)]]}})),
+             "it has a measurement that is not"), ("a list", cbor.encoded([1]), "it has no tag 501"), ("another tag", cbor.encoded(cbor.Tag(502, {})), "it has no tag 501"),
+            ("no CoMID", cbor.encoded(cbor.Tag(501, {1: [cbor.Tag(505, b"")]})), "it has no tag 506"), ("no tags", cbor.encoded(cbor.Tag(501, {})), malformed)]
+
+
+HOST = {"path": "h<b>.toml", "settled_by": "the RIM of g<i>", "numbers": [{"name": "num_bps", "value": 5, "from": "h<b>.toml"}, {"name": "pmu", "value": True, "from": "-cpu"}],
+        "rows": [{"name": "ram", "taken": "first", "does": "all of it", "likely": 75, "from": "the likeliest", "not_settled": []},
+                 {"name": "order", "taken": "kind", "does": "by kind", "likely": 20, "from": "h<b>.toml", "not_settled": []},
+                 {"name": "stub", "taken": "none", "does": "no part", "likely": 85, "from": "--stub", "not_settled": []},
+                 {"name": "block_level", "taken": "0", "does": "as large as fits", "likely": 75, "from": "h<b>.toml", "not_settled": ["1", "3"]}]}
+
+
+def machines(program: str) -> list[str]:
+    """What the record of a folder says of the machine is on the page; a record of another manifest, or one that is none, is a fault."""
+    text = manifest(launch("a"))
+    record = {"rim_manifest_record": 2, "hypervisor": "qemu", "program": "QEMU 1<u>", "host": HOST, "files": {"manifest.toml": hashlib.sha256(text).hexdigest()}}
+    with folder({"made/manifest.toml": text, "made/kernel": FILES["kernel"], "made/tree": FILES["tree"], "made/record.json": json.dumps(record).encode()}) as here:
+        page, wrong = made(here, program, "made")
+        rows = {"ram": "ramfirstall of itassumed, the likeliest (75%)", "order": "orderkindby kindsettled", "stub": "stubnoneno partchosen by --stub",
+                "block_level": "block_level0as large as fitsnot settled: 1 or 3 is possible too", "num_bps": "num_bps5h<b>.toml", "pmu": "pmutrue-cpu"}
+        wrong += [f"{name}: {text!r} is missing" for name, text in rows.items() if text not in page.texts["tr"]]
+        wrong += missing(page, "for QEMU 1<u>. Settled by: the RIM of g<i>. 2 rows are assumed or not settled")
+        wrong += differs("marks of theirs", [each for each in ("i", "u") if each in page.all], [])
+        unsettled = record | {"program": "", "host": HOST | {"settled_by": None, "numbers": []}}
+        here.put("made/record.json", json.dumps(unsettled).encode())
+        page, more = made(here, program, "made")
+        wrong += more + missing(page, "for qemu. No machine has settled it", "orderkindby kindchosen in h<b>.toml")
+        here.put("made/record.json", json.dumps({key: value for key, value in record.items() if key != "host"}).encode())
+        page, more = made(here, program, "made")
+        wrong += more + ["an older record"] * ("What is assumed of the machine" in page.text)
+        for name, data, text in (("another manifest", json.dumps(record | {"files": {}}), "it is not of manifest.toml, which was changed since"), ("no JSON", "{", "it is no JSON"),
+                                 ("no rows", json.dumps(record | {"host": {"path": "h", "settled_by": None, "numbers": []}}), "rows is missing, or is no array"),
+                                 ("a row", json.dumps(record | {"host": HOST | {"rows": [1]}}), "name is missing, or is no text")):
+            here.put("made/record.json", data.encode())
+            status, out, said = here.run("--out", "-", "made", start=START, RIM=program)
+            wrong += differs(name, (status, out, said.startswith(f"rim-page: made/record.json: {text}"), said.count("\n")), (3, "", True, 1))
+        os.remove(os.path.join(here.path, "made", "record.json"))
+        os.mkfifo(os.path.join(here.path, "made", "record.json"))
+        status, out, said = here.run("--out", "-", "made", start=START, RIM=program)
+        return wrong + differs("a FIFO", (status, out, said), (3, "", "rim-page: made/record.json: it is a FIFO, expected a record of rim-manifest\n"))
 
 
 def two(program: str) -> list[str]:
@@ -410,6 +525,9 @@ WORDS = [
     (["--out", "-", "gone.toml"], 3, "gone.toml: No such file or directory, expected a manifest"),
     (["--out", "-", "fifo"], 3, "fifo: it is a FIFO, expected a manifest"), (["--out", "-", "/dev/zero"], 3, "/dev/zero: it is a device, expected a manifest"),
     (["--out", "-", "."], 3, ".: it has 0 manifests, expected a folder of rim-manifest"), (["--out", "-", "huge"], 3, "huge: it has more than 67108864 bytes"),
+    (["--diff", "--signed", "k", "--out", "-", "m.toml", "a", "b"], 2, "--signed: it is of a release, expected no --diff"),
+    (["--out", "-", "--signed", "fifo", "m.toml"], 3, "fifo: it is a FIFO, expected a report"), (["--out", "-", "--signed"], 2, "--signed: nothing comes after it"),
+    (["--out", "-", "--signed", "huge", "m.toml"], 3, "huge: it has more than 67108864 bytes"),
     (["--out", "-", "--before", "fifo", "m.toml"], 3, "fifo: it is a FIFO, expected a report"),
     (["--out", "-", "--before", "huge", "m.toml"], 3, "huge: it has more than 67108864 bytes"),
     (["--out", "-", "--before", "m.toml", "m.toml"], 3, "it is no JSON"),
@@ -472,7 +590,7 @@ def signals(program: str) -> list[str]:
     return wrong
 
 
-TRIES = [("a release", release), ("the same bytes", same_bytes), ("manifests at fault", at_fault), ("texts of others", texts), ("kept reports", before),
+TRIES = [("a release", release), ("what is joined", joined), ("what is to be signed", signed), ("the machine", machines), ("the same bytes", same_bytes), ("manifests at fault", at_fault), ("texts of others", texts), ("kept reports", before),
          ("two launches", two), ("pictures", picture), ("launchers", launchers), ("what changes meanwhile", changes),
          ("a program that misbehaves", misbehaving), ("words", words), ("full disks", disks), ("signals", signals)]
 

@@ -20,9 +20,9 @@ fi
 mkdir "$out"
 rim check "$manifest"
 rim measure --json -o "$out/report.json" "$manifest"
-rim-page --before "$kept" --out "$out/page.html" "$manifest"
 rim-endorse --vendor "$RIM_VENDOR" --corim "$out/realms.cbor" "$out/report.json" >"$out/realms.json"
 rim-endorse --in-toto "$out/report.json" >"$out/statement.json"
+rim-page --before "$kept" --signed "$out/report.json" --signed "$out/realms.cbor" --signed "$out/statement.json" --out "$out/page.html" "$manifest"
 rim-compare "$kept" "$out/report.json" >"$out/changes.txt" || {
     status=$?
     cat "$out/changes.txt"

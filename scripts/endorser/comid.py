@@ -12,7 +12,8 @@ from collections.abc import Mapping, Sequence
 from dataclasses import dataclass
 
 from comparer.report import Value
-from outside.cbor import Tag, encoded
+from outside import cbor
+from outside.cbor import Malformed, Tag, encoded
 
 # What identifiers are made in: the same contents have the same ones.
 NAMESPACE = uuid.uuid5(uuid.NAMESPACE_URL, "urn:rim:endorsement:1")
@@ -102,3 +103,48 @@ def corim(about: About, launches: Launches, profile: str = PROFILE) -> bytes:
     inner = as_cbor(about, launches)
     own = uuid.uuid5(NAMESPACE, inner.hex())
     return encoded(Tag(CORIM, {CORIM_ID: own.bytes, CORIM_TAGS: [Tag(COMID, inner)], CORIM_PROFILE: Tag(URI, profile)}))
+
+
+# ---- what a CoRIM has
+
+# A value as a CoRIM has it, without a personalization value of zeros.
+Endorsed = tuple[str, str, str]
+
+
+def endorsed(value: Value) -> Endorsed:
+    return value.algorithm, value.digits, value.rpv if has_rpv(value) else ""
+
+
+def values_in(data: bytes) -> set[tuple[Endorsed, str | None]]:
+    """Returns each value in an unsigned CoRIM with the name of its launch, if that is there. What `corim` does not write is refused."""
+    try:
+        outer = tagged(cbor.decoded(data), CORIM)
+        triples = [triple for each in outer[CORIM_TAGS] for triple in triples_of(cbor.decoded(tagged(each, COMID)))]
+        return {(value_of(environment, measurement), measurement.get(MKEY)) for environment, some in triples for measurement in some}
+    except (KeyError, TypeError, ValueError, AttributeError):
+        raise Malformed("it is no unsigned CoRIM as rim-endorse writes it") from None
+
+
+def tagged(value: object, number: int):
+    """Returns what has a tag."""
+    if not isinstance(value, Tag) or value.number != number:
+        raise Malformed(f"it has no tag {number} where a CoRIM has it")
+    return value.value
+
+
+def triples_of(inner: dict) -> list:
+    (kind, triples), = inner[TRIPLES].items()
+    if kind != REFERENCE_VALUES:
+        raise Malformed("it has other triples than reference values")
+    return triples
+
+
+def value_of(environment: dict, measurement: dict) -> Endorsed:
+    """Returns the value of a measurement, whose RIM is the instance of the environment too."""
+    values = measurement[VALUES]
+    (name, ((number, rim),)), = values[REGISTERS].items()
+    algorithms = [each for each, (_, own) in HASHES.items() if type(number) is int and own == number]
+    is_alone = set(measurement) <= {MKEY, VALUES} and set(values) <= {REGISTERS, RAW_VALUE}
+    if name != RIM or not algorithms or not is_alone or tagged(environment[INSTANCE], BYTES) != rim:
+        raise Malformed("it has a measurement that is not one of a RIM alone")
+    return algorithms[0], rim.hex(), tagged(values[RAW_VALUE], BYTES).hex() if RAW_VALUE in values else ""

@@ -9,11 +9,11 @@ from collections.abc import Mapping, Sequence
 from dataclasses import dataclass, field
 
 from comparer import differ
-from comparer.differ import Difference, Input, Kind
+from comparer.differ import Difference, Group, Input, Kind
 from comparer.report import Report
 
 from .markup import escaped, listed, named
-from .names import link
+from .names import link, links
 
 # How a launch differs, in the word of a cell.
 WORDS = {Kind.VALUE: "another value", Kind.REFUSED: "refused now", Kind.ACCEPTED: "accepted now", Kind.REASON: "another reason",
@@ -85,9 +85,22 @@ def between(was: Report, now: Report, since: Sequence[str], notes: list[str]) ->
     return found
 
 
+def of_group(group: Group, ids: Mapping[str, str]) -> str:
+    """The launches of a group, with what differs of each alone and of all of them."""
+    if not group.shared:
+        each = group.members[0]
+        return f"{link(each.name, ids)} {of_launch(each)}{listed(list(map(of_input, each.inputs or ())))}"
+    names: dict[str, list[str]] = {}
+    for each in group.members:
+        names.setdefault(of_launch(each), []).append(each.name)
+    said = "; ".join(f"{links(some, ids)}: {'each ' * (len(some) > 1)}{text}" for text, some in names.items())
+    own = [f"{link(each.name, ids)}: {of_input(one)}" for each in group.members for one in group.own(each) or ()]
+    return f"{said}, for one cause{listed([*map(of_input, group.shared), *own])}"
+
+
 def part(changes: Changes, ids: Mapping[str, str]) -> str:
     """The part of a page that has all of them."""
-    lines = [f"{link(name, ids)} {of_launch(each)}{listed(list(map(of_input, each.inputs or ())))}" for name, each in changes.launches.items()]
+    lines = [of_group(each, ids) for each in differ.groups(list(changes.launches.values()))]
     lines += [f"{escaped(each.name)} {of_launch(each)}" for each in changes.gone]
     files = [f"<code>{named(each.name)}</code> {of_file(each)}" for each in changes.files]
     head = f'<h2 id="changes">What changed since {changes.since}</h2>'

@@ -6,13 +6,14 @@ from collections.abc import Mapping
 from comparer.report import Value
 
 from .changes import Changes
+from .maps import Map
 from .markup import MOST_LINE, MOST_PATH, code, count_of, digits, element, escaped, scrolled, size_of
 from .names import link
 from .reading import Launch
 
 # The heads of the columns; those of numbers are sorted as such.
-HEADS = ("Name", "Kernel", "Memory", "Processors", "Command line", "Algorithm", "Value", "Warnings")
-NUMBERS = (2, 3)
+HEADS = ("Name", "Kernel", "Initrd", "Memory", "Processors", "Command line", "Algorithm", "Value", "Warnings")
+NUMBERS = (3, 4)
 SEARCH = ('<div class="tools"><label for="search">Search the launches</label> <input id="search" type="search" autocomplete="off" '
           'spellcheck="false"> <span id="found" role="status"></span></div>')
 
@@ -22,12 +23,17 @@ def value_of(value: Value) -> str:
     return f'<em>refused: {escaped(value.refused)}</em>' if value.refused else digits(value.digits)
 
 
+def file_of(here: Map, kind: str) -> str:
+    """The file of the item of a kind."""
+    item = here.of_kind(kind)
+    return code(item.file, MOST_PATH) if item is not None and item.file is not None else "none"
+
+
 def row(launch: Launch, ids: Mapping[str, str], changes: Changes | None) -> str:
     """The row of a launch."""
     here = launch.map
-    kernel = here.of_kind("kernel")
     warnings = f"<b>{count_of(len(here.warnings), 'warning')}</b>" if here.warnings else ""
-    cells = ["<td>" + (code(kernel.file, MOST_PATH) if kernel is not None and kernel.file is not None else "none") + "</td>",
+    cells = [*(f"<td>{file_of(here, kind)}</td>" for kind in ("kernel", "initrd")),
              f'<td data-n="{here.ram}">{size_of(here.ram) if here.ram else "none"}</td>',
              f"<td>{here.recs}</td>",
              "<td>" + ("none" if launch.command_line is None else code(launch.command_line, MOST_LINE)) + "</td>",

@@ -13,7 +13,7 @@ from outside.faults import Fault
 from outside.rim import Rim, started
 from outside.texts import visible
 
-from . import changes, picture, reading, release_page, sides, words
+from . import changes, machine, picture, reading, release_page, sides, signed, words
 from .reading import Release, Source
 from .words import ABOUT, ALONE, Words
 
@@ -63,14 +63,16 @@ def since(said: Words, now: Report) -> changes.Changes | None:
 
 def inputs_of(release: Release, said: Words) -> list[str]:
     """The paths of all that a page is made of."""
-    found = [each.source.at for each in release.checked] + list(said.before)
+    found = [each.source.at for each in release.checked] + [*said.before, *said.signed]
+    found += [os.path.join(each.folder, machine.RECORD) for each in release.machines]
     return found + [each.source.of(path) for each in release.checked for path in (release.report.files or {} if release.report else {})]
 
 
 def of_release(rim: Rim, said: Words, out: str) -> int:
     """The page of a release. Where a manifest is at fault, the page says so, and so does the status."""
     release = reading.released(rim, reading.sources_of(said.operands))
-    made = release_page.page(release, since(said, release.report) if release.report is not None else None)
+    found = release.report
+    made = release_page.page(release, since(said, found) if found else None, tuple(signed.read(path, found) for path in said.signed if found))
     check_no_input(out, inputs_of(release, said))
     write(made.encode(), out)
     if not release.is_whole:

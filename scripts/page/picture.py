@@ -16,7 +16,7 @@ from . import blocks, style
 from .maps import PAGE, Item, Map
 from .markup import count_of, escaped, size_of
 
-WIDTH = 760
+WIDTH = 860
 # Where each column begins and ends; the last one is text, which ends where the picture does.
 ADDRESS, BLOCKS, TABLES, RAM, ITEM, TEXT = 104, (110, 122), (125, 135), (140, 220), (300, 420), 430
 # The first line below the heads; how high all RAM is, a region at least, and what is between two; how high the row of an item is, and its box.
@@ -24,7 +24,7 @@ TOP, HEIGHT, LEAST, BETWEEN, ROW, BOX = 24, 260, 8, 20, 40, 26
 # How near two addresses may be to be read.
 NEAR = 12
 # How long a name may be in the picture.
-MOST_NAME = 44
+MOST_NAME = 32
 LETTERS = {"kernel": "k", "initrd": "i", "dtb": "d", "raw": "w", "unknown": "u"}
 LEGEND_HEIGHT = 46
 

@@ -21,7 +21,8 @@ from outside.programs import Ran
 from outside.rim import Rim, tree_of
 from outside.texts import visible
 
-from . import maps, pieces
+from . import machine, maps, pieces
+from .machine import Machine
 from .maps import Map
 
 # The longest manifest that is read, and how many bytes of files all programs that run at a time may hold.
@@ -74,12 +75,15 @@ class Launch:
 
 @dataclass(frozen=True)
 class Release:
-    """All that a page shows. Where a manifest is at fault, there is no launch, and `report` is None: nothing of it has a value then."""
+    """All that a page shows. Where a manifest is at fault, there is no launch, and `report` is None: nothing of it has a value then. `digests` are
+    those of the reports of its manifests."""
 
     program: str
     checked: tuple[Checked, ...]
     launches: tuple[Launch, ...] = ()
     report: Report | None = None
+    digests: tuple[str, ...] = ()
+    machines: tuple[Machine, ...] = ()
 
     @property
     def is_whole(self) -> bool:
@@ -107,12 +111,17 @@ def fault_of(ran: Ran, source: Source) -> Fault:
     return Fault(f"{ran.said.strip()}{there}")
 
 
-def table_of(rim: Rim, source: Source, what: str, *words: str, statuses: Sequence[int] = (0, 1)) -> object:
-    """The JSON that `rim` prints by some words; another status than these is a fault."""
+def output_of(rim: Rim, source: Source, *words: str, statuses: Sequence[int] = (0, 1)) -> bytes:
+    """What `rim` prints by some words; another status than these is a fault."""
     ran = rim.run(*words, folder=source.folder)
     if ran.status not in statuses:
         raise fault_of(ran, source)
-    return files.json_of(rim.path, ran.out, what)
+    return ran.out
+
+
+def table_of(rim: Rim, source: Source, what: str, *words: str, statuses: Sequence[int] = (0, 1)) -> object:
+    """The JSON that `rim` prints by some words."""
+    return files.json_of(rim.path, output_of(rim, source, *words, statuses=statuses), what)
 
 
 def version_of(rim: Rim) -> str:
@@ -155,10 +164,11 @@ def map_of(rim: Rim, source: Source, name: str) -> Map:
 
 @dataclass(frozen=True)
 class Measured:
-    """What `rim measure --json` says of a manifest: its JSON, and that as a report."""
+    """What `rim measure --json` says of a manifest: its JSON, the digest of its bytes, and that as a report."""
 
     checked: Checked
     table: dict
+    digest: str
     report: Report
 
     @property
@@ -174,13 +184,14 @@ class Measured:
 def measured(rim: Rim, of: Checked) -> Measured:
     """The report of a manifest; one that is of another content than was read is a fault."""
     source = of.source
-    table = table_of(rim, source, report.WHAT, "measure", "--json", "--explain", "--", source.path)
+    out = output_of(rim, source, "measure", "--json", "--explain", "--", source.path)
+    table = files.json_of(rim.path, out, report.WHAT)
     found = report.of_table(table, rim.path)
     if not isinstance(table, dict) or found.inputs is None:
         raise Fault(f"{visible(rim.path)}: its reports have version {found.version}, expected one that says what launches are made of")
     if [each.get("sha256") for each in table.get("manifests", []) if isinstance(each, dict)] != [of.digest]:
         raise Fault(f"{visible(source.at)}: it was changed while it was measured, {CHANGED}")
-    return Measured(of, table, found)
+    return Measured(of, table, hashlib.sha256(out).hexdigest(), found)
 
 
 def check_unchanged(of: Measured):
@@ -300,4 +311,13 @@ def released(rim: Rim, sources: Sequence[Source]) -> Release:
         check_unchanged(each)
     if joined.program != program:
         raise Fault(f"{visible(rim.path)}: it says that it is {visible(program)}, and its reports that it is {visible(str(joined.program))}")
-    return Release(program, found, tuple(launches), joined)
+    return Release(program, found, tuple(launches), joined, tuple(each.digest for each in all_of), machines_of(found))
+
+
+def machines_of(some: Sequence[Checked]) -> tuple[Machine, ...]:
+    """What the folders of rim-manifest say of the machine, each once."""
+    digests: dict[str, dict[str, str]] = {}
+    for each in some:
+        if each.source.folder is not None:
+            digests.setdefault(each.source.folder, {})[each.source.path] = each.digest
+    return tuple(found for folder, of in digests.items() if (found := machine.read(folder, of)) is not None)

@@ -18,6 +18,8 @@ from .ways import LIKELIEST, Chosen
 WIDTH = 140
 # The keys of a launch that are the host's.
 OF_HOST = (*parameters.ALL, "block_level", "num_aux", "rec_rule", "rpv", "pool_base", "pool_count")
+# All that the file about a host says of the machine and is no choice.
+OF_MACHINE = (*OF_HOST, "s2sz_max", "hypervisor_version")
 
 
 @dataclass(frozen=True)

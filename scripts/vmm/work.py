@@ -76,6 +76,15 @@ def checked(vmm: Hypervisor, found: list[Launch], trees: dict[str, dumps.Dump], 
         raise Fault(*lines)
 
 
+def host_of(of: host.Host, chosen: dict[str, Chosen]) -> dict[str, object]:
+    """What the record says of the machine: each number with where it comes from, and each row that a realm may change, with what is taken, who says
+    so, and what else the machine may do."""
+    numbers = [{"name": key, "value": of[key], "from": of.notes.get(key) or of.path} for key in manifest.OF_MACHINE if of[key] is not None]
+    rows = [{"name": name, "taken": each.name, "does": each.way.does, "likely": each.way.likely, "from": each.source,
+             "not_settled": of.not_settled.get(name, [])} for name, each in chosen.items()]
+    return {"path": of.path, "settled_by": of["settled_by"], "numbers": numbers, "rows": rows}
+
+
 def record_of(vmm: Hypervisor, groups: list[tuple[str, launches.Group]], program_line: str, what: Asked) -> dict[str, object]:
     """What the record says: the command line, where each file is of, and each launch."""
     blobs_ = {blob.file: blob for _, group in groups for launch in group.launches for blob in launch.files if blob.path}
@@ -281,7 +290,8 @@ class Work:
         if self.is_told:
             ending.say("rim-manifest", *(f"warning: {warning}" for warning in warnings))
         lines = [f"{visible(os.path.join(self.out, name))}: {group}" for name, group in zip(manifests, groups)]
-        return lines, record_of(self.vmm, list(zip(manifests, groups)), self.program_line, self.what)
+        record = record_of(self.vmm, list(zip(manifests, groups)), self.program_line, self.what)
+        return lines, record | {"host": host_of(self.host, about.chosen)}
 
     def measured(self, folder: str) -> tuple[int, str]:
         """Measures the launches of a folder that is not in its place yet. Returns the status of `rim measure` and the report."""

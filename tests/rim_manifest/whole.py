@@ -11,7 +11,7 @@ import sys
 from helpers import MIB, SCRIPTS, SECONDS
 from helpers.files import image, tree
 from helpers.folders import Folder
-from helpers.guests import FILES, LOW, OTHER_IMAGE, QEMU, STAND_IN, START, TREES, WITH_TREE, replaced, without
+from helpers.guests import FILES, LOW, OTHER_IMAGE, QEMU, STAND_IN, START, TREES, WITH_TREE, host, replaced, without
 from helpers.tries import differs
 
 from outside import parameters
@@ -89,6 +89,22 @@ def pasted(program: str):
         wrong += differs("sources", record["sources"], {"kernel-b": {"path": "b", "sha256": digests["b"]},
                                                         "kernel-new": {"path": "Image", "sha256": digests["Image"]}})
         return wrong + read_by(program, folder, count=4)
+
+
+def machine_recorded(_program: str):
+    """The record says each number of the machine, and each row with what is taken, who says so and what is not settled."""
+    with Folder({"host.toml": host(hypervisor_version='"10.0.2"', settled_by='"guest g"', not_settled='["stub=measured"]', realm='{ order = "kind" }',
+                                   block_level=None, rec_rule=None)}) as folder:
+        status, _, said = folder.run(*WITH_TREE, "--row", "ram=each")
+        of = json.loads(folder.read("out/record.json"))["host"]
+    wrong = differs("status", status, 0) + [said] * (status != 0)
+    rows = {each["name"]: (each["taken"], each["from"], each["not_settled"]) for each in of["rows"]}
+    wrong += differs("rows", [rows[name] for name in ("ram", "order", "stub", "block_level")], [
+        ("each", "--row", []), ("kind", "host.toml", []), ("none", "the likeliest", ["measured"]), ("0", "the likeliest", [])])
+    numbers = {each["name"]: (each["value"], each["from"]) for each in of["numbers"]}
+    wrong += differs("numbers", [numbers.get(name) for name in ("pmu", "s2sz_max", "hypervisor_version")], [
+        (True, "host.toml"), (48, "host.toml"), ("10.0.2", "host.toml")])
+    return wrong + differs("the file, and who settled it", (of["path"], of["settled_by"]), ("host.toml", "guest g"))
 
 
 def one_step(program: str):

@@ -205,6 +205,7 @@ RIM_COMPARE = script(
 RIM_PAGE = script(
     "rim-page", (MANIFEST,),
     Option(("--before",), "Say what changed since a report that was kept", FILE),
+    Option(("--signed",), "A file that is to be signed", FILE),
     Option(("--diff",), "The page of two launches, side by side"),
     Option(("--svg",), "The map of a launch alone, as a picture"),
     Option(("--out",), "The file that gets the page", FILE),

@@ -7,7 +7,8 @@ usage: tools/trials/page_in_browser.py PAGE.html FOLDER
 - The table is sorted and searched, by clicks and letters as a person makes them. A value that is selected has all digits and nothing else.
 - Each text has at least 4.5 to 1 against its ground, on a light and on a dark one, and what is drawn 3 to 1 (WCAG 2, AA). Names and labels for
   screen readers; headings in their order.
-- Pictures of it are put into FOLDER: wide.png, phone.png, dark.png, paper.pdf, and part.png, which is the part of the second launch as far as its
+- On a phone each value can be read. No text of a picture is cut, and no number breaks.
+- Pictures of it are put into FOLDER: wide.png, phone.png, phone-launches.png, dark.png, paper.pdf, and part.png, which is the part of the second launch as far as its
   bar: that of examples/vm/manifest.toml, made small by pngquant, is docs/rim-page.png.
 
 It needs Debian's chromium. The last line is 'N passed, M failed'.
@@ -299,16 +300,31 @@ def contrasts(browser: Browser) -> list[str]:
 
 
 def fits(browser: Browser) -> list[str]:
-    """On a phone no part is wider than the page but those that are moved by themselves."""
+    """On a phone no part is wider than the page but those that are moved by themselves, and each value in the table can be read."""
     browser.size(390, 844, True)
     width = browser.value("document.documentElement.scrollWidth")
-    return [] if width <= 390 else [f"it is {width} wide on a phone of 390"]
+    hidden = browser.value("[...document.querySelectorAll('#launches samp')].filter(each => { const box = each.getBoundingClientRect(); "
+                           "return box.left < 0 || box.right > 390 || !box.height; }).length")
+    return [f"it is {width} wide on a phone of 390"] * (width > 390) + [f"{hidden} values are off the screen of a phone"] * bool(hidden)
+
+
+def whole_texts(browser: Browser) -> list[str]:
+    """No text of a picture is cut, and no number breaks."""
+    browser.size(1280, 1000)
+    cut = browser.value("[...document.querySelectorAll('svg.map text')].filter(each => { const box = each.getBBox(); "
+                        "return box.x < 0 || box.x + box.width > each.ownerSVGElement.viewBox.baseVal.width; }).map(each => each.textContent)")
+    broken = browser.value("[...document.querySelectorAll('td')].filter(each => /^(0x[0-9a-f]+|[\\d,]+)$/.test(each.textContent) && "
+                           "(range => (range.selectNodeContents(each), range.getClientRects().length > 1))(document.createRange()))"
+                           ".map(each => each.textContent)")
+    return [f"a picture cuts {text!r}" for text in cut[:9]] + [f"a number breaks: {text}" for text in broken[:9]]
 
 
 def pictures(browser: Browser, folder: Path):
     browser.value("getSelection().removeAllRanges(); scrollTo(0, 0)")
     browser.size(390, 1800, True)
     browser.picture(folder / "phone.png")
+    browser.value("document.getElementById('launches')?.scrollIntoView()")
+    browser.picture(folder / "phone-launches.png")
     browser.size(900, 1000)
     at = browser.value("(() => { const part = document.getElementById('l2'); if (!part) return null; part.scrollIntoView(); "
                        "const end = part.querySelector('.key, dl').getBoundingClientRect(), top = part.getBoundingClientRect(); "
@@ -342,7 +358,7 @@ def main(words: list[str]) -> int:
             came = {"requests and the console": opened(browser, page)}
             if browser.value("Boolean(document.querySelector('#launches tbody tr'))"):
                 came |= {"sorting": sorted_by_clicks(browser), "searching": searched(browser), "selecting": selected(browser)}
-            came |= {"contrast": contrasts(browser), "labels": browser.value(LABELS), "a phone": fits(browser)}
+            came |= {"contrast": contrasts(browser), "labels": browser.value(LABELS), "a phone": fits(browser), "texts and numbers": whole_texts(browser)}
             for name, wrong in came.items():
                 print(*(f"WRONG: {name}: {line}" for line in wrong), sep="\n", end="\n" * bool(wrong), flush=True)
             pictures(browser, folder)
