@@ -48,10 +48,10 @@ background:repeating-linear-gradient(90deg,transparent 0 8ch,var(--stripe) 8ch 1
 table{{border-collapse:collapse;width:100%;font-size:.875rem}}caption{{text-align:left;color:var(--muted);padding:.2rem 0}}
 th,td{{text-align:left;vertical-align:top;padding:.35rem .5rem;border-bottom:1px solid var(--line);overflow-wrap:break-word}}
 thead th{{background:var(--raised);overflow-wrap:normal}}
-#launches{{table-layout:fixed;min-width:77rem}}#launches.more{{min-width:80rem}}
-#launches th:nth-child(1){{width:15%}}#launches th:nth-child(2),#launches th:nth-child(3){{width:9%}}#launches th:nth-child(4){{width:6rem}}
-#launches th:nth-child(5){{width:7.2rem}}#launches.more th:nth-child(1){{width:13%}}
-#launches th:nth-child(7){{width:6.8rem}}#launches th:nth-child(8){{width:16.5rem}}#launches th:nth-child(9),#launches th:nth-child(10){{width:7rem}}
+#launches{{table-layout:fixed;min-width:77rem}}#launches.more{{min-width:78rem}}
+#launches th:nth-child(1){{width:14%}}#launches :is(th:nth-child(2),th:nth-child(3)){{width:8%}}#launches th:nth-child(4){{width:6rem}}
+#launches.more th:nth-child(1){{width:12%}}#launches.more :is(th:nth-child(2),th:nth-child(3)){{width:7%}}#launches th:nth-child(5){{width:7.2rem}}
+#launches th:nth-child(7){{width:6rem}}#launches th:nth-child(8){{width:16.5rem}}#launches :is(th:nth-child(9),th:nth-child(10)){{width:6.4rem}}
 #launches :is(th,td):nth-child(4),#launches :is(th,td):nth-child(5){{text-align:right;white-space:nowrap}}
 thead button{{font:inherit;font-weight:700;color:inherit;background:none;border:0;padding:0;cursor:pointer;text-align:left}}
 thead button::after{{content:" ↕";color:var(--muted)}}
