@@ -214,7 +214,7 @@ def job_of(name: str) -> tuple[str, dict[str, str]]:
     """The command and the variables of a job of examples/ci: its lines are plain, so that no reader of YAML is needed."""
     with open(os.path.join(TOP, "examples", "ci", name), encoding="utf-8") as file:
         text = file.read()
-    commands = re.findall(r"- (?:run: )?(examples/.*)", text)
+    commands = re.findall(r"- (?:run: )?(sh examples/.*)", text)
     return commands[0] if len(commands) == 1 else "", dict(re.findall(r"(RIM_[A-Z]+): (.*)", text))
 
 
