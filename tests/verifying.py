@@ -341,7 +341,9 @@ NOT_VALID = {
     "nonce-missing": "the challenge of the realm token is not the nonce", "nonce-short": "the challenge of the realm token is not the nonce",
     "rim-missing": "its claim 44238 (RIM) is missing", "rim-length": "its claim 44238 (RIM) has 32 bytes, expected 64",
     "key-off-curve": "a key is no point of P-384", "key-with-private-half": "the realm's key is no COSE_Key of P-256",
-    "key-malformed": "the realm's key is neither a point",
+    "key-malformed": "the realm's key is neither a point", "key-of-another-algorithm": "the realm's key is no COSE_Key of P-256",
+    "key-coordinates-shifted": "the realm's key is no COSE_Key of P-256", "signature-padded": "the signature of the platform token is not",
+    "realm-profile-of-point": "the profile of the realm token is \"tag:arm.com,2023:cca",
 }
 
 
@@ -576,12 +578,22 @@ def wrong_files(_program: str) -> list[str]:
 
     here, wrong = Folder({}), []
     path = os.path.join(here.path, "p.toml")
-    for data, text in WRONG_KEYS:
+    for data, text in (*WRONG_KEYS, *other_kinds()):
         wrong += faulty(text, lambda data=data: keys.in_file(data, "k"), f"k: {text}")
     for data, text in WRONG_PLATFORMS:
         here.put("p.toml", data.encode())
         wrong += faulty(text, lambda: expected.read(path), f"{path}: {text}")
     return wrong
+
+
+def other_kinds() -> list[tuple[bytes, str]]:
+    """Keys of other kinds."""
+    from cryptography.hazmat.primitives import serialization
+    from cryptography.hazmat.primitives.asymmetric import ec, rsa, x25519
+
+    made = [ec.generate_private_key(ec.SECP256K1()), rsa.generate_private_key(65537, 2048), x25519.X25519PrivateKey.generate()]
+    pem = serialization.Encoding.PEM, serialization.PublicFormat.SubjectPublicKeyInfo
+    return [(each.public_key().public_bytes(*pem), "a PEM block has a key of another kind") for each in made]
 
 
 def faulty(name: str, call, text: str) -> list[str]:

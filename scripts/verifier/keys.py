@@ -110,8 +110,8 @@ def of_cose(key: dict) -> Key:
         return on_curve(curve, x)
     if type(y) is bool:
         return on_curve(curve, bytes([2 + y]) + x)
-    if type(y) is not bytes or len(y) != curve.size:
-        raise Malformed("the y of the realm's COSE_Key is missing or has another length than its curve")
+    if type(y) is not bytes:
+        raise Malformed("the realm's COSE_Key has no y")
     return on_curve(curve, bytes([WHOLE_POINT]) + x + y)
 
 

@@ -164,6 +164,7 @@ wrong("none-realm", main.platform, main.realm(says: 0, with: ->(_) { "".b }))
 wrong("hmac", main.platform(says: 5, with: hmac.call(main.platform_key.public_to_pem)), main.realm)
 wrong("hmac-realm", main.platform, main.realm(says: 5, with: hmac.call(main.realm_key_bytes)))
 wrong("signature-in-der", main.platform(with: ->(data) { main.platform_key.sign("SHA384", data) }), main.realm)
+wrong("signature-padded", main.platform(with: ->(data) { signature(main.platform_key, "SHA384", 48, data).insert(48, "\0".b) }), main.realm)
 wrong("algorithm-unprotected", main.platform(bytes: "".b, unprotected: { 1 => -35 }), main.realm)
 wrong("two-algorithms", main.platform(unprotected: { 1 => -7 }), main.realm)
 wrong("algorithm-twice", main.platform, main.realm(unprotected: { 1 => -35 }))
@@ -184,6 +185,8 @@ WRONG["outer-twice"] = "\xd9\x01\x8f".b + with_pair({ 44234 => main.platform, 44
 wrong("platform-profile", main.platform(main.platform_claims(set: { 265 => "tag:arm.com,2023:cca_platform#9.0.0" })), main.realm)
 wrong("platform-profile-missing", main.platform(main.platform_claims(set: { 265 => nil })), main.realm)
 wrong("realm-profile", main.platform, main.realm(main.realm_claims(c265: PLATFORM_PROFILE)))
+point_kit = Kit.new(**main.to_h, raw: true)
+wrong("realm-profile-of-point", point_kit.platform, point_kit.realm(point_kit.realm_claims(c265: PLATFORM_PROFILE)))
 wrong("realm-profile-missing", main.platform, main.realm(main.realm_claims(c265: nil)))
 wrong("key-hash-md5", main.platform(main.platform_claims(set: { 10 => OpenSSL::Digest.digest("MD5", main.realm_key_bytes) })), main.realm(main.realm_claims(c44240: "md5")))
 wrong("nonce-missing", main.platform, main.realm(main.realm_claims(c10: nil)))
@@ -191,11 +194,14 @@ wrong("nonce-short", main.platform, main.realm(main.realm_claims(c10: NONCE[0, 3
 wrong("rim-missing", main.platform, main.realm(main.realm_claims(c44238: nil)))
 wrong("rim-length", main.platform, main.realm(main.realm_claims(c44236: "sha-512")))
 
-# a key that is no point of its curve, and one that has its private half
+# realm keys that are at fault
 broken = cose_key(main.realm_key)
 broken.setbyte(-1, broken.getbyte(-1) ^ 1)
 private_half = COSE::Key.from_pkey(main.realm_key).serialize
-{ "key-off-curve" => broken, "key-with-private-half" => private_half, "key-malformed" => "key".b }.each do |name, bytes|
+other_algorithm = CBOR.encode(CBOR.decode(cose_key(main.realm_key)).merge(3 => -7))
+shifted = CBOR.encode({ 1 => 2, -1 => 2, -2 => point(main.realm_key)[1, 47], -3 => point(main.realm_key)[48..] })
+{ "key-off-curve" => broken, "key-of-another-algorithm" => other_algorithm, "key-coordinates-shifted" => shifted,
+  "key-with-private-half" => private_half, "key-malformed" => "key".b }.each do |name, bytes|
   challenge = { 10 => OpenSSL::Digest.digest("SHA256", bytes) }
   wrong(name, main.platform(main.platform_claims(set: challenge)), main.realm(main.realm_claims(c44237: bytes)))
 end
