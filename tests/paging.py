@@ -302,8 +302,8 @@ def others(here: Folder) -> list[tuple[str, bytes, str]]:
     inner = cbor.decoded(outer.value[1][0].value)
     triples = inner[4][0]
 
-    def corim(some: list, more: dict | None = None) -> bytes:
-        return cbor.encoded(cbor.Tag(501, outer.value | {1: [cbor.Tag(506, cbor.encoded(inner | {4: {0: some} | (more or {})}))]}))
+    def corim(some: list, more: dict | None = None, kind: int = 0) -> bytes:
+        return cbor.encoded(cbor.Tag(501, outer.value | {1: [cbor.Tag(506, cbor.encoded(inner | {4: {kind: some} | (more or {})}))]}))
 
     def changed(value: dict) -> list:
         return [[triples[0][0], [triples[0][1][0] | {1: value}]], *triples[1:]]
@@ -322,7 +322,8 @@ def others(here: Folder) -> list[tuple[str, bytes, str]]:
              [{0: "e", 1: {14: {"rim": [[1, bytes(32)]]}}}]]]), unlike % (1, 0)),
             ("another name", corim([[triples[0][0], [triples[0][1][0] | {0: "b"}]], *triples[1:]]), unlike % (1, 1)),
             ("no personalization value", corim([*triples[:2], [triples[2][0], [{0: "c", 1: {14: triples[2][1][0][1][14]}}]]]), unlike % (1, 1)),
-            ("other triples", corim(triples, {1: []}), malformed), ("another register", changed({14: {"rem": [[1, rim]]}}) and corim(changed({14: {"rem": [[1, rim]]}})),
+            ("other triples", corim(triples, {1: []}), malformed), ("endorsed values", corim(triples, kind=1), "it has other triples than reference"),
+            ("another register", corim(changed({14: {"rem": [[1, rim]]}})),
              "it has a measurement that is not one of a RIM alone"), ("two digests", corim(changed({14: {"rim": [[1, rim], [1, rim]]}})), malformed),
             ("another hash", corim(changed({14: {"rim": [[2, rim]]}})), "it has a measurement that is not"), ("more of a measurement", corim(changed(
                 {14: {"rim": [[1, rim]]}, 0: 1})), "it has a measurement that is not"), ("another instance", corim(changed({14: {"rim": [[1, bytes(32)]]}})),
