@@ -19,7 +19,6 @@ import base64
 import json
 import os
 import random
-import shutil
 import subprocess
 import sys
 import tomllib
@@ -637,7 +636,8 @@ def many_releases(program: str) -> list[str]:
     """Each way of VERIFIER to measure many releases leaves the same reports, which the scripts join."""
     here, place = checkout(program)
     first, by_xargs, by_parallel, by_array, *joined = commands.of_section("VERIFIER.md", "Many releases")
-    has_parallel = shutil.which("parallel") is not None
+    # another program of this name is in Debian's moreutils
+    has_parallel = "GNU parallel" in commands.run_in(place, "parallel --version", program)[1]
     if not has_parallel:
         print("not tried: GNU parallel, which is not installed")
     names, reports, wrong = ("first", "kernel", "vm"), [], []

@@ -1,6 +1,6 @@
 """Public keys and the signatures made by their private keys. All cryptography is that of the package `cryptography`.
 
-A key is used with one algorithm only, the one that RFC 9053 names for its curve. So a token can't choose how its signature is checked.
+A key is used with one algorithm only, the one that RFC 9053 recommends for its curve. So a token can't choose how its signature is checked.
 """
 from __future__ import annotations
 
