@@ -35,7 +35,8 @@ from helpers.tries import at_a_time, differs, program_of, told
 
 from outside import cbor
 from outside.rim import Rim
-from page import reading, release_page, style
+from page import launches, maps, reading, release_page, style
+from page import picture as picture_of
 
 START = os.path.join(TOP, "rim-page")
 EXAMPLE = "examples/vm/manifest.toml"
@@ -422,6 +423,27 @@ def renamed(of: reading.Launch, name: str, line: str, number: int) -> reading.La
     return replace(of, name=name, value=replace(of.value, digits=digits), command_line=line, map=replace(of.map, name=name, regions=ram, extensions=extensions))
 
 
+# ---- what a browser would show
+
+# The widest a character is on average, of texts of numbers, in a sans-serif font of 11 pixels.
+WIDTH_OF_CHARACTER = 6.5
+
+
+def on_screens(_program: str) -> list[str]:
+    """A picture has room for what it says of an item of 1 GiB above 64 GiB; on a phone each cell of the table has the head of its column, but the
+    name and what says itself what it is."""
+    item = maps.Item("kernel", "kernel", "Image", False, True, 0x10_8000_0000, 1 << 30, 1 << 18)
+    lines = re.findall(r">([^<]*)<", f">{picture_of.said_of(item, 0)}<")
+    longest = max(len(line) for line in lines) * WIDTH_OF_CHARACTER
+    wrong = [f"{lines} take {longest}"] * (longest > picture_of.WIDTH - picture_of.TEXT)
+    phone = style.OF_PAGE.split("@media screen and (max-width:48rem)")[1].split("@media print")[0]
+    labels = {int(number): label for number, label in re.findall(r'nth-child\((\d)\)::before\{content:"([^"]*)"', phone)}
+    heads = {number: head for number, head in enumerate(launches.HEADS, 1) if head not in ("Name", "Value", "Warnings")}
+    wrong += differs("labels", labels, heads) + differs("the value comes first", f"td:nth-child({launches.HEADS.index('Value') + 1}){{order:-1}}" in phone, True)
+    return wrong + differs("numbers break", "th,td{text-align:left;vertical-align:top;padding:.35rem .5rem;border-bottom:1px solid var(--line);"
+                           "overflow-wrap:break-word}" in style.OF_PAGE, True)
+
+
 # ---- pictures
 
 
@@ -591,7 +613,7 @@ def signals(program: str) -> list[str]:
     return wrong
 
 
-TRIES = [("a release", release), ("what is joined", joined), ("what is to be signed", signed), ("the machine", machines), ("the same bytes", same_bytes), ("manifests at fault", at_fault), ("texts of others", texts), ("kept reports", before),
+TRIES = [("a release", release), ("what is joined", joined), ("what is to be signed", signed), ("what a browser would show", on_screens), ("the machine", machines), ("the same bytes", same_bytes), ("manifests at fault", at_fault), ("texts of others", texts), ("kept reports", before),
          ("two launches", two), ("pictures", picture), ("launchers", launchers), ("what changes meanwhile", changes),
          ("a program that misbehaves", misbehaving), ("words", words), ("full disks", disks), ("signals", signals)]
 
