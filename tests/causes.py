@@ -317,18 +317,21 @@ RECORD = {"rim_manifest_record": 2, "hypervisor": "qemu", "program": "QEMU 10.0.
 
 
 def made_anew(program: str) -> list[str]:
-    """QEMU makes devicetrees by changed words: such as nobody would have written anew. One that makes others is refused."""
+    """QEMU makes devicetrees by changed words: such as nobody would have written anew. A plain QEMU makes those of a realm but for PSCI's
+    method. One that makes others is refused."""
     strange = {"512M-1-console=hvc0": qemu_tree(bootargs="console=hvc0", model="arm,a"), "1024M-1-console=ttyAMA0": qemu_tree(memory=1024, model="arm,b"),
                "512M-4-console=ttyAMA0": qemu_tree(count=4, model="arm,c")}
-    here = Folder(FILES | {"trees/512M-1-console=ttyAMA0": qemu_tree(), "record.json": json.dumps(RECORD).encode(), "m.toml": manifest(launch())}
-                  | {f"trees/{name}": data for name, data in strange.items()})
+    here = Folder(FILES | {"record.json": json.dumps(RECORD).encode(), "m.toml": manifest(launch())} | {f"loaded/{name}": data for name, data in strange.items()})
     here.put("qemu", QEMU.encode(), is_program=True)
     wrong = []
-    for name, numbers, text in (("512M-1-console=hvc0", {}, 'the command line "console=hvc0"'), ("1024M-1-console=ttyAMA0", {"memory": 1024}, "1 GiB of RAM"),
-                                ("512M-4-console=ttyAMA0", {"count": 4}, "4 processors")):
-        value = value_of(program, here, manifest(launch(**numbers), paths={"dtb": f"trees/{name}"}))
-        status, out, said = match(program, here, "--qemu", "./qemu", "--append-file", "lines", "m.toml", "vm", value)
-        wrong += differs(f"{name}: {out!r}", (status, said, f"by 1 change: {text}\n" in out), (0, "", True))
+    for method in (b"hvc\0", b"smc\0"):
+        for name, data in (strange | {"512M-1-console=ttyAMA0": qemu_tree()}).items():
+            here.put(f"trees/{name}", data.replace(b"smc\0", method))
+        for name, numbers, text in (("512M-1-console=hvc0", {}, 'the command line "console=hvc0"'), ("1024M-1-console=ttyAMA0", {"memory": 1024}, "1 GiB of RAM"),
+                                    ("512M-4-console=ttyAMA0", {"count": 4}, "4 processors")):
+            value = value_of(program, here, manifest(launch(**numbers), paths={"dtb": f"loaded/{name}"}))
+            status, out, said = match(program, here, "--qemu", "./qemu", "--append-file", "lines", "m.toml", "vm", value)
+            wrong += differs(f"{name} {method!r}: {out!r}", (status, said, f"by 1 change: {text}\n" in out), (0, "", True))
     for path, data, text in (
             ("trees/512M-1-console=ttyAMA0", qemu_tree(model="arm,d"), '--qemu: ./qemu makes another devicetree of the words of launch "vm", expected "QEMU 10.0.2"'),
             ("record.json", json.dumps(RECORD | {"launches": []}).encode(), 'record.json: it has no launch "vm", expected one for --qemu'),

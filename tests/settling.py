@@ -78,7 +78,8 @@ FILES = {"Image": image(BSS, length=KERNEL), "initrd": INITRD}
 
 def tree_of(name: str) -> bytes:
     about = LAYOUTS[name]
-    return tree(about.ram, initrd=(about.initrd, about.initrd + len(INITRD)), count=2, length=about.length, **{"pcie@10000000": None})
+    return tree(about.ram, initrd=(about.initrd, about.initrd + len(INITRD)), count=2, length=about.length, method=b"hvc\0",
+                **{"pcie@10000000": None})
 
 
 # ---- a machine
@@ -128,10 +129,16 @@ def blob(name: str, kind: str, at: int, start: int, length: int, granule: int) -
     return [*lead, (name, kind, name, at, high - start if granule > PAGE else length, page, high)]
 
 
+def loaded_tree(machine: Machine) -> bytes:
+    """The devicetree that a machine loads, of which a plain guest has dumped `tree_of`."""
+    data = tree_of(machine.vmm)
+    return data.replace(b"hvc\0", b"smc\0") if machine.ways["psci"] == "smc" else data
+
+
 def manifest(machine: Machine) -> str:
     """The manifest of a machine's guest."""
     about, ways, granule = LAYOUTS[machine.vmm], machine.ways, GRANULES[machine.ways["host_pages"]]
-    data = tree_of(machine.vmm)
+    data = loaded_tree(machine)
     used = len(data.rstrip(b"\0")) if ways["dtb_pages"] == "used" else len(data)
     blobs = {"kernel": blob("kernel", "kernel", about.kernel, about.kernel, BSS if ways["kernel_pages"] == "image_size" else KERNEL, granule),
              "initrd": blob("initrd", "initrd", about.initrd, about.initrd, len(INITRD), granule),
@@ -163,7 +170,7 @@ def manifest(machine: Machine) -> str:
     pc, x = (LOW, "") if has_stub else (about.kernel, f'"{about.dtb:#x}"')
     keys = "".join(f"{key} = {str(value).lower()}\n" for key, value in machine.values.items())
     heads = "".join(f'[[file]]\nname = "{name}"\npath = "{path}"\n' for name, path in (
-        ("kernel", "Image"), ("initrd", "initrd"), ("dtb", "used" if ways["dtb_pages"] == "used" else "tree"), ("stub", "stub"), ("zeros", "zeros")))
+        ("kernel", "Image"), ("initrd", "initrd"), ("dtb", "used" if ways["dtb_pages"] == "used" else "loaded"), ("stub", "stub"), ("zeros", "zeros")))
     return (f'rim_manifest = 2\n{heads}[[launch]]\nname = "a"\nalgo = "{ways["hash"]}"\ns2sz = {machine.width}\n{keys}'
             f'block_level = {ways["block_level"]}\nrec_rule = "{ways["rec_rule"]}"\nram = {[list(each) for each in ram]}\nitem = [\n{items}]\n'
             f'rec = [{{ pc = "{pc:#x}", x = [{x}] }}, {{ runnable = false }}]\nsteps = {steps}\n').replace("'", '"')
@@ -198,9 +205,9 @@ def known_of(machine: Machine, draw: random.Random, is_known: bool) -> dict:
 
 
 def folder_of(machine: Machine) -> Folder:
-    data = tree_of(machine.vmm)
+    data = loaded_tree(machine)
     packed = data.rstrip(b"\0")
-    return Folder(FILES | {"tree": data, "used": packed.ljust((len(packed) + PAGE - 1) & -PAGE, b"\0"), "stub": stub(machine), "zeros": b"\0",
+    return Folder(FILES | {"tree": tree_of(machine.vmm), "loaded": data, "used": packed.ljust((len(packed) + PAGE - 1) & -PAGE, b"\0"), "stub": stub(machine), "zeros": b"\0",
                            "machine.toml": manifest(machine).encode()})
 
 
@@ -329,7 +336,7 @@ EXPECTED = "".join(f"{key} = {str(value).lower()}\n" for key, value in KNOWN.ite
 
 # The rows that the value of the guest pins, also those that are at their likeliest alternative.
 SETTLED = {"ram": "first", "stub": "measured", "order": "address", "s2sz": "one_more", "kernel_pages": "file", "dtb_pages": "whole", "hash": "sha512",
-           "host_pages": "4k", "rec_rule": "all", "num_bps": "as_read", "num_wps": "as_read", "pmu_num_ctrs": "as_read"}
+           "host_pages": "4k", "rec_rule": "all", "psci": "smc", "num_bps": "as_read", "num_wps": "as_read", "pmu_num_ctrs": "as_read"}
 
 
 def the_file(program: str):
@@ -475,7 +482,7 @@ def stopped(program: str):
         time.sleep(PATIENCE)
         ran.send_signal(signal.SIGINT)
         out, said = ran.communicate(timeout=SECONDS)
-        wrong = differs("status", (ran.returncode, "combinations of 8 rows" in first, said), (130, True, ""))
+        wrong = differs("status", (ran.returncode, "combinations of 9 rows" in first, said), (130, True, ""))
         return wrong + differs("what was tried", out.startswith("the search was stopped; none of ") and "  stub: none" in out, True)
 
 

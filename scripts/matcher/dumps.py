@@ -7,6 +7,7 @@ from dataclasses import dataclass, field, replace
 from outside import files, programs
 from outside.faults import Fault
 from outside.programs import Limits
+from outside.rim import with_smc
 from outside.texts import last_line, shown, visible
 
 from .files import Files
@@ -40,10 +41,11 @@ class Words:
 
 @dataclass
 class Dumper:
-    """The program, and the words of each devicetree that it has made."""
+    """The program, and the words of each devicetree that it has made; `is_of_realm`: whether its hvc becomes smc, as rim-manifest has it."""
 
     program: str
     folder: str
+    is_of_realm: bool = False
     words: dict[str, Words] = field(default_factory=dict)
 
     def dump(self, words: Words) -> bytes:
@@ -54,7 +56,7 @@ class Dumper:
             raise Fault(f"{visible(self.program)} has written no devicetree (status {ran.status}): {said}")
         data = files.read(path, MOST_TREE, "a devicetree")
         os.remove(path)
-        return data
+        return next(with_smc(data), data) if self.is_of_realm else data
 
     def another(self, held: Files, name: str, about: str, **changes: str) -> str | None:
         """The file of a devicetree by changed words; None where that of the name was not made by words that are known, or QEMU refuses them."""
@@ -103,7 +105,9 @@ def begun(program: str, scratch: str, manifest: str, launch: str, dtb: str, held
         raise Fault(f"{visible(path)}: it does not say the words of its launches, expected {WHAT}") from None
     dumper = Dumper(program, scratch)
     made, mine = dumper.dump(words), held.data(dtb)
-    if made[:len(mine)] != mine or any(made[len(mine):]):
+    changed = next(with_smc(made), made)
+    dumper.is_of_realm = made[:len(mine)] != mine and changed[:len(mine)] == mine
+    if made[:len(mine)] != mine and not dumper.is_of_realm or any(made[len(mine):]):
         expected = shown(str(table.get("program")))
         raise Fault(f"--qemu: {visible(program)} makes another devicetree of the words of launch {shown(launch)}, expected {expected}")
     dumper.words[dtb] = words

@@ -2,6 +2,7 @@
 from __future__ import annotations
 
 import io
+import re
 import struct
 import sys
 from collections.abc import Iterator
@@ -146,6 +147,20 @@ class Tree:
     def used(self) -> int:
         """Where the last of its blocks ends."""
         return max(self.header.structure + self.header.structure_size, self.header.strings + self.header.strings_size)
+
+
+# A property of 4 bytes with the value "hvc": its token, its length, the offset of its name, its value. One may begin within another.
+HVC = re.compile(rb"(?=\x00{3}\x03\x00{3}\x04(....)hvc\x00)", re.S)
+
+
+def with_smc(data: bytes) -> Iterator[bytes]:
+    """Yields a devicetree with one property `method = "hvc"` replaced by `smc` in place, for each such property. Bytes within the value of
+    another property may look like one, so the caller checks the result."""
+    head = Header(*WORDS.unpack(data[:WORDS.size].ljust(WORDS.size, b"\0")))
+    for found in HVC.finditer(data, head.structure, head.structure + head.structure_size):
+        name, value = head.strings + int.from_bytes(found[1], "big"), found.start() + 12
+        if data[name:name + 7] == b"method\0":
+            yield data[:value] + b"smc" + data[value + 3:]
 
 
 def tree_of(rim: Rim, path: str, name: str = "") -> Tree:

@@ -1,4 +1,4 @@
-"""Devicetrees: made by the hypervisor's program, or handed in. None is made up, and none is edited."""
+"""Devicetrees: made by the hypervisor's program, or handed in. None is made up, and none is edited but for the method of PSCI."""
 import concurrent.futures
 import hashlib
 import os
@@ -14,9 +14,10 @@ from dataclasses import dataclass, replace
 from outside import files, programs
 from outside.faults import Fault
 from outside.programs import Limits, Ran
-from outside.rim import Rim, Tree, tree_of
+from outside.rim import Rim, Tree, tree_of, with_smc
 from outside.texts import last_line, plain, visible
 
+from .devicetree import psci_method
 from .hypervisor import Hypervisor
 from .launches import Launch
 
@@ -45,12 +46,18 @@ class Written:
 @dataclass(frozen=True)
 class Dump(Written):
     """A devicetree as it is loaded, what a fault calls it, what it says, and the path or the words by which it is called; `is_own`: whether
-    it is a file that the hypervisor is given, and no longer one that it makes."""
+    it is a file that the hypervisor is given, and no longer one that it makes; `of_realm`: the same with `smc` as the method of PSCI, if a
+    plain guest's method is all that it has."""
 
     path: str
     tree: Tree
     source: str
     is_own: bool = False
+    of_realm: "Dump | None" = None
+
+    def by(self, psci: str) -> "Dump":
+        """Returns the devicetree by an alternative of the row psci."""
+        return self.of_realm if self.of_realm and psci == "smc" else self
 
 
 def written(data: bytes) -> Written:
@@ -64,13 +71,20 @@ class Reader:
         self.rim, self.folder = rim, folder
         self.trees: dict[bytes, Tree] = {}
 
-    def dump(self, name: str, written: Written) -> Dump:
-        digest = hashlib.sha256(written.data).digest()
+    def tree(self, name: str, data: bytes) -> Tree:
+        digest = hashlib.sha256(data).digest()
         if digest not in self.trees:
             path = os.path.join(self.folder, "tree")
-            files.write(path, written.data)
+            files.write(path, data)
             self.trees[digest] = tree_of(self.rim, path, name)
-        return Dump(written.packed, written.length, visible(name), self.trees[digest], name)
+        return self.trees[digest]
+
+    def dump(self, name: str, read: Written) -> Dump:
+        found = Dump(read.packed, read.length, visible(name), self.tree(name, read.data), name)
+        if psci_method(found.tree) != "hvc":
+            return found
+        changed = ((written(data), self.tree(name, data)) for data in with_smc(read.data))
+        return replace(found, of_realm=next((replace(found, packed=each.packed, tree=tree) for each, tree in changed if psci_method(tree) == "smc"), None))
 
 
 def version(program: str) -> tuple[str, str]:
@@ -203,7 +217,7 @@ def padded(name: str, data: bytes) -> bytes:
 def own(path: str, is_padded: bool, reader: Reader, launches: list[Launch]) -> dict[str, Dump]:
     """The file that the hypervisor is given, which is that of each launch."""
     data = files.read(path, MOST, "a devicetree")
-    found = replace(reader.dump(path, written(data)), is_own=True)
+    found = replace(reader.dump(path, written(data)), is_own=True, of_realm=None)
     if is_padded:
         longer = written(padded(path, data))
         found = replace(found, packed=longer.packed, length=longer.length)

@@ -2,7 +2,7 @@
 Linux, QEMU and kvmtool: nothing that can be installed settles it, and one measurement of a machine does."""
 from outside.parameters import RMM_1_0, Parameter
 
-from .layout import MEMORY, Row, Way
+from .layout import MEMORY, SOURCE, Row, Way
 
 KVM = "changes that were proposed to Linux"
 
@@ -18,6 +18,11 @@ BLOCK_LEVEL = Row(
 REC_RULE = Row(
     "rec_rule", "whether the RECs of processors that begin off are measured", None, "the standard (DEN0137), RMI_REC_CREATE", MEMORY,
     (Way("runnable", "they are not, as the standard says", 90), Way("all", "they are measured like any other", 10)), "one with two processors")
+PSCI = Row(
+    "psci", "the method by which the devicetree has PSCI called", None, "arch/arm64/kernel/rsi.c of Linux 7.3, which looks for a monitor by smc alone",
+    "source: that Linux needs smc; that a hypervisor writes it: memory",
+    (Way("smc", "smc: where a dump has hvc, these bytes are replaced in place, and a dump that has smc is left alone", 98, SOURCE),
+     Way("dumped", "as a dump has it", 2)), "one whose devicetree is the dump of a plain guest")
 COUNTED = "one of two, where the file about the host gives the number"
 
 
@@ -30,7 +35,7 @@ def counted(number: Parameter) -> Row:
 # The rows of the numbers of the host's file that are measured, and what each alternative adds to them.
 NUMBERS = {number.key: counted(number) for number in RMM_1_0}
 ADDS = {"as_read": 0, "one_more": 1, "one_less": -1}
-SHARED = [HOST_PAGES, BLOCK_LEVEL, REC_RULE, *NUMBERS.values()]
+SHARED = [HOST_PAGES, BLOCK_LEVEL, REC_RULE, PSCI, *NUMBERS.values()]
 
 
 def hash_row(source: str, *ways: tuple[str, int]) -> Row:

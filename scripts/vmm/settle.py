@@ -121,13 +121,13 @@ class Body:
 
 @dataclass
 class Alternatives:
-    """A launch with the files that the alternatives of its rows need: devicetrees by the alternatives of `dtb_file` and `dtb_pages`, stubs by
-    their bytes, and contents by the names of files."""
+    """A launch with the files that the alternatives of its rows need: devicetrees by the alternatives of `dtb_file`, `psci` and `dtb_pages`,
+    stubs by their bytes, and contents by the names of files."""
 
     vmm: Hypervisor
     table: list[Row]
     launch: Launch
-    trees: dict[tuple[str, str], Blob]
+    trees: dict[tuple[str, str, str], Blob]
     stubs: dict[bytes, Blob]
     contents: dict[str, Content]
     widths: dict[str, int] = field(default_factory=dict, init=False)
@@ -145,7 +145,7 @@ class Alternatives:
 
     def realm(self, taken: Mapping[str, str]) -> Realm:
         places = self.places(taken)
-        tree = self.trees.get((taken.get("dtb_file", "given"), taken["dtb_pages"]))
+        tree = self.trees.get((taken.get("dtb_file", "given"), taken.get("psci", "smc"), taken["dtb_pages"]))
         if tree is None:
             raise Fault("there is no such devicetree")
         stub = self.stubs[places.stub_bytes] if places.stub is not None else None

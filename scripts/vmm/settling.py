@@ -1,6 +1,7 @@
 """The words of `rim-manifest settle`, the guests that it is given, and the file about the host that it writes."""
 from __future__ import annotations
 
+import itertools
 import os
 import sys
 from collections.abc import Mapping, Sequence
@@ -13,7 +14,7 @@ from outside.measurement import Value
 from outside.rim import REPORT
 from outside.texts import shown, visible
 
-from . import asked, checks, dumps, host, launches, layout, settle, words
+from . import asked, checks, devicetree, dumps, host, launches, layout, settle, words
 from .folder import Folder
 from .guest import Blob
 from .host import Host
@@ -21,7 +22,7 @@ from .hypervisor import Hypervisor
 from .hypervisors import HYPERVISORS
 from .manifest import text, value_text
 from .realm import ZEROS
-from .rows import NUMBERS
+from .rows import NUMBERS, PSCI
 from .settle import Case, Outcome, Settled
 from .words import Option
 from .work import Work, go_to, rows_of, tree_blob
@@ -174,7 +175,7 @@ class Maker:
         launch, = work.launches(made)
         dump = work.trees(made, [launch])[launch.name]
         self.has_pmu = self.has_pmu or dump.tree.root.child("pmu") is not None
-        warnings = [*checks.warnings([dump.tree]), *checks.of_console([launch])]
+        warnings = [*checks.warnings([dump.by(work.chosen["psci"].name).tree]), *checks.of_console([launch])]
         ending.say("rim-manifest", *(f"warning: {each}" for each in warnings))
         if wrong := checks.of_unsettled(self.vmm, launch, dump):
             raise Fault(*checks.faults({launch.name: wrong}, {}))
@@ -185,9 +186,9 @@ class Maker:
         known: dict[tuple, Blob] = {}
         trees, stubs = {}, {}
         for name, each in variants(work, dump, launch):
-            for pages in ("whole", "used"):
+            for psci, pages in itertools.product(methods(each), ("whole", "used")):
                 try:
-                    trees[name, pages] = tree_blob(made, launch, each, pages, known, True)
+                    trees[name, psci, pages] = tree_blob(made, launch, each, {"psci": psci, "dtb_pages": pages}, known, True)
                 except Fault:
                     # zeros are asked for after its blocks: a realm of this tree has no such pages
                     continue
@@ -202,6 +203,11 @@ class Maker:
     def drop(self):
         for each in self.folders:
             each.drop()
+
+
+def methods(dump: dumps.Dump) -> list[str]:
+    """The alternatives of the row psci that a devicetree leaves: one that has smc by itself is that of a realm."""
+    return PSCI.names[:1] if devicetree.psci_method(dump.tree) == "smc" and not dump.is_own else PSCI.names
 
 
 def variants(work: Work, dump: dumps.Dump, launch: launches.Launch) -> list[tuple[str, dumps.Dump]]:
@@ -350,7 +356,8 @@ def with_features(work: Work) -> Host:
 def search(maker: Maker, given: Sequence[Given], cases: list[Case], rows: Mapping[str, layout.Row], limit: int, out: str) -> int:
     work = maker.works[0]
     names = {row.name for each in maker.works for row in each.table if row.ways}
-    names -= {"dtb_file"} if all("own_dtb" not in each.said for each in maker.works) else set()
+    is_own = {"own_dtb" in each.said for each in maker.works}
+    names -= {"dtb_file"} if is_own == {False} else {"psci"} if is_own == {True} else set()
     choices = settle.choices_of(cases, with_features(work), work.chosen, names, maker.has_pmu)
     ending.say("rim-manifest", f"{choices.count:,} combinations of {len(choices.rows)} rows, the width and four numbers; "
                f"{len(choices.structures):,} of the rows are measured in other ways")

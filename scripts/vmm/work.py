@@ -4,7 +4,7 @@ from __future__ import annotations
 import hashlib
 import os
 import shutil
-from collections.abc import Callable
+from collections.abc import Callable, Mapping
 from dataclasses import replace
 
 from outside import ending, files, parameters, programs
@@ -20,6 +20,7 @@ from .hypervisor import Hypervisor
 from .launches import Launch
 from .layout import Row
 from .measured import Content
+from .rows import PSCI
 from .settle import Alternatives
 from .ways import Chosen
 
@@ -53,8 +54,9 @@ def set_width(launch: Launch, width: Chosen, most: int, source: str):
         raise Fault(f"{places.width_from}: {places.s2sz}, expected at most {most}, {source}")
 
 
-def tree_blob(made: Folder, launch: Launch, dump: dumps.Dump, pages: str, known: dict[tuple, Blob], is_handed_in: bool) -> Blob:
-    """The file of a devicetree; those of the same bytes are one file."""
+def tree_blob(made: Folder, launch: Launch, dumped: dumps.Dump, taken: Mapping[str, str], known: dict[tuple, Blob], is_handed_in: bool) -> Blob:
+    """The file of a devicetree by the alternatives of its rows; those of the same bytes are one file."""
+    dump, pages = dumped.by(taken["psci"]), taken["dtb_pages"]
     data, key = dump.data, (dump.packed, dump.length, pages)
     if pages == "used":
         data = data[:up(dump.tree.used, PAGE)]
@@ -63,7 +65,8 @@ def tree_blob(made: Folder, launch: Launch, dump: dumps.Dump, pages: str, known:
     if key not in known:
         name = f"dtb-{len(known) + 1}"
         origin = f"copied from \"{dump.path}\"" if is_handed_in else f"made for launch {launch.name}"
-        source = hashlib.sha256(dump.data).hexdigest()
+        origin += ", with the psci method \"smc\" in the place of \"hvc\"" * (dump is not dumped)
+        source = hashlib.sha256(dumped.data).hexdigest()
         known[key] = made.put(name, data, name, origin, dump.source if is_handed_in else "", source)
     return known[key]
 
@@ -200,7 +203,8 @@ class Work:
     def taken(self) -> dict[str, Chosen]:
         """The rows that a realm may change, of these launches, with what is taken of them."""
         names = {row.name for row in self.table}
-        without = {"dtb_file": "own_dtb" not in self.said, "hash": self.algo_from != "rule hash"}
+        is_own = "own_dtb" in self.said
+        without = {"dtb_file": not is_own, "psci": is_own, "hash": self.algo_from != "rule hash"}
         without |= {key: not self.host[flag] for flag, key in parameters.FLAGGED}
         return {name: each for name, each in self.chosen.items() if name in names and not without.get(name)}
 
@@ -224,7 +228,7 @@ class Work:
         taken = {name: each.name for name, each in self.chosen.items()}
         numbers = realm.numbers_of(self.host.values, taken, self.host.name)
         for launch in found:
-            launch.tree = tree_blob(made, launch, trees[launch.name], taken["dtb_pages"], known, "program" not in self.said)
+            launch.tree = tree_blob(made, launch, trees[launch.name], taken, known, "program" not in self.said)
             data = launch.places.stub_bytes
             if launch.places.stub is not None:
                 launch.stub = stubs.get(data) or made.put(f"stub-{len(stubs) + 1}", data, "", "rule stub_bytes")
@@ -238,11 +242,13 @@ class Work:
         assert launch.tree is not None
         name = self.chosen["dtb_file"].name if dump.is_own else "given"
         lengths = {"whole": dump.length, "used": up(dump.tree.used, PAGE)}
-        trees = {(name, pages): replace(launch.tree, length=length) for pages, length in lengths.items() if len(dump.packed) <= length}
+        dumped = {psci: dump.by(psci) for psci in PSCI.names}
+        trees = {(name, psci, pages): replace(launch.tree, file=psci if each is not dump else "dumped", length=length) for psci, each in dumped.items()
+                 for pages, length in lengths.items() if len(each.packed) <= length}
         data = layout.places(self.table, replace(launch.guest, ways={"stub": "measured"})).stub_bytes
         stub = launch.stub or Blob("stub", "", "", len(data), "", "", "")
         contents = {each.file: Content(each.file, each.length) for each in (*launch.files, stub)}
-        contents |= {launch.tree.file: Content(launch.tree.file, len(dump.packed)), realm.ZEROS: Content(realm.ZEROS, 0)}
+        contents |= {name: Content(name, len(dump.packed)) for name in PSCI.names} | {realm.ZEROS: Content(realm.ZEROS, 0)}
         return Alternatives(self.vmm, self.table, launch, trees, {data: stub}, contents)
 
     def unsettled(self, found: list[Launch], trees: dict[str, dumps.Dump]) -> list[str]:
@@ -267,7 +273,7 @@ class Work:
                     f"by this one, and by the words of the launch{among}.")
         if "own_dtb" in self.said:
             return "The devicetree is the file of -dtb, and QEMU does not edit it for a realm: see the row dtb_file."
-        return "The devicetrees were handed in by --dtb and are placed as they are."
+        return "The devicetrees were handed in by --dtb and are placed as they are, but for the row psci."
 
     def write(self, made: Folder) -> tuple[list[str], dict[str, object]]:
         """All of the work, into a folder that is not in its place yet; lines about it, and what its record says."""
@@ -276,7 +282,8 @@ class Work:
         if self.is_checked:
             checked(self.vmm, found, trees, self.host, "program" not in self.said)
         self.place_files(made, found, trees)
-        different = {(each.packed, each.length): each.tree for each in trees.values()}
+        loaded = (each.by(self.chosen["psci"].name) for each in trees.values())
+        different = {(each.packed, each.length): each.tree for each in loaded}
         warnings = [*checks.warnings(list(different.values())), *checks.of_console(found), *self.unsettled(found, trees)]
         line = self.what.line.words if self.what.line and not self.what.line.program else []
         about = manifest.About(self.vmm, self.words, line, self.host, self.taken(), self.algo_from, self.table, self.made_by(), warnings,

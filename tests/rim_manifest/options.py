@@ -1,6 +1,7 @@
 """Options, one at a time: a run that writes a folder, and what is looked at in it."""
 import base64
 import gzip
+import hashlib
 import json
 import os
 import struct
@@ -63,6 +64,9 @@ def firmware_is(folder: Folder, top: int) -> list[str]:
 
 SHORT_TREE = tree([(LOW, LOW + 256 * MIB)], length=None)
 OF_LKVM = {"tree": tree([(2 * LOW, 2 * LOW + 256 * MIB)], initrd=(0x8FDF_DCD4, 0x8FDF_FFFD), length=65536, **NO_PCIE)}
+NAMED = changed_tree(psci=None, a={"method": b""})["tree"]
+# The bytes of a property `method = "hvc"`, for the value of another one.
+LIKE_HVC = struct.pack(">3I", 3, 4, NAMED.index(b"method\0") - struct.unpack(">I", NAMED[12:16])[0]) + b"hvc\0"
 REALM_TABLE = b"""[realm]
 s2sz = "guest"
 block_level = 1
@@ -144,8 +148,19 @@ OPTIONS = [
     ("a width", [*WITH_TREE, "--s2sz", "48"], lambda folder: differs("s2sz", first(folder)["s2sz"], 48)),
     ("a width of the host", WITH_TREE, lambda folder: differs("s2sz", first(folder)["s2sz"], 33),
      changed_tree(**NO_PCIE) | changed_host(s2sz_max="39")),
-    ("a plain guest", WITH_TREE, lambda folder: differs("warning", b"Warning: 1 of 1" in folder.read("out/manifest.toml"), True),
-     changed_tree(method=b"hvc\0"), 'have the psci method "hvc", expected "smc": no realm has such a devicetree'),
+    *[(f"psci: {name}", [*WITH_TREE, *row], lambda folder, data=made["tree"], old=old, new=new: differs("devicetree", folder.read("out/dtb-1"),
+       data[:data.rindex(old)] + new + data[data.rindex(old) + 4:]) + differs("source", json.loads(folder.read("out/record.json"))["sources"]["dtb-1"],
+       {"path": "tree", "sha256": hashlib.sha256(data).hexdigest()}) + differs("its origin", b'with the psci method "smc" in the place of "hvc"' in
+       folder.read("out/manifest.toml"), old != new), made, warns)
+      for name, row, made, old, new, warns in (
+        ("a plain guest", [], changed_tree(method=b"hvc\0"), b"hvc\0", b"smc\0", ""),
+        ("a realm", [], changed_tree(), b"smc\0", b"smc\0", ""),
+        ("of another place, after what looks like it", [], changed_tree(psci=None, a={"method": b"", "b": LIKE_HVC}, firmware={"p": {
+            "compatible": b"arm,psci-1.0\0arm,psci-0.2\0", "method": b"hvc\0"}}), b"hvc\0", b"smc\0", ""),
+        ("as dumped", ["--row", "psci=dumped"], changed_tree(method=b"hvc\0"), b"hvc\0", b"hvc\0",
+         'have the psci method "hvc", expected "smc": no realm has such a devicetree'))],
+    ("psci of -dtb", [*QEMU, "-dtb", "tree"], lambda folder: differs("bytes", folder.read("out/dtb-1"), FILES["tree"].replace(b"smc\0", b"hvc\0"))
+     + differs("the row", b"psci = " in folder.read("out/manifest.toml"), False), changed_tree(method=b"hvc\0"), 'have the psci method "hvc"'),
     *[(f"an early console: {text}", [*WITH_TREE, "-append", text], lambda folder, says=says: differs("warning", f"# Warning: {says}" in
        folder.read("out/manifest.toml").decode() if says else b"Warning" in folder.read("out/manifest.toml"), bool(says)), changed_tree(bootargs=text), says)
       for text, says in (("earlycon=pl011,0x9000000 quiet", "earlycon at 0x9000000, in the protected half"),

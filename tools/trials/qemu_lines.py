@@ -142,7 +142,7 @@ def ends(qemu: str, words: list[str]) -> bool:
 
 def tried(qemu: str, words: list[str], folder: str, out: str) -> tuple[str, list[str]]:
     """What came of a line: `the same`, `refused` or WRONG; and lines about it."""
-    start = [os.path.join(TOP, "rim-manifest"), "qemu", "--host", "host.toml", "--stub", "measured", "--out", out, "--qemu", qemu, "--", "qemu-system-aarch64", *words]
+    start = [os.path.join(TOP, "rim-manifest"), "qemu", "--host", "host.toml", "--stub", "measured", "--row", "psci=dumped", "--out", out, "--qemu", qemu, "--", "qemu-system-aarch64", *words]
     made = subprocess.run(start, cwd=folder, capture_output=True, text=True, check=False)
     os.chdir(folder)
     if made.returncode:

@@ -3,8 +3,8 @@
 
 usage: tools/trials/qemu_memory.py [--qemu PROGRAM] [--only TEXT] DIR
 
-DIR is a folder that `rim-manifest qemu --stub measured` has written: a plain guest has the stub, and its other rows are the likeliest
-alternatives. Its record.json has the words of each launch. --only takes the launches whose name has
+DIR is a folder that `rim-manifest qemu --stub measured --row psci=dumped` has written: a plain guest has the stub, and PSCI by hvc. Its other
+rows are the likeliest alternatives. Its record.json has the words of each launch. --only takes the launches whose name has
 TEXT. QEMU is qemu-system-aarch64 where it is not given. It is started stopped (-S), and its monitor is asked for all of its RAM. The listing
 is that of `rim`: the program that the variable RIM names, or else the one at the top. Then
 
