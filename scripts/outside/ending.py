@@ -63,6 +63,7 @@ def status_or_fault(name: str, run: Callable[[], int]) -> int:
         return status
     except (WrongWords, Fault) as why:
         say(name, *why.lines)
+        print(getattr(why, "block", ""), end="", file=sys.stderr, flush=True)
         return why.status
     except BrokenPipeError:
         drop_output()

@@ -19,6 +19,7 @@ class WrongWords(Lines):
 
 
 class Fault(Lines):
-    """A file, a program or a launch is not as it has to be."""
+    """A file, a program or a launch is not as it has to be. `block` is printed after the lines as it is, for a reader to paste."""
 
     status = 3
+    block = ""

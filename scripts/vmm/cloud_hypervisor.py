@@ -8,7 +8,7 @@ from outside.texts import shown
 
 from .cloud_hypervisor_words import GRAMMAR, refuse_before, sort, sort_rest  # noqa: F401, what a hypervisor has
 from .guest import MIB, PAGE, Blob, Guest, Memory, Processors, Word, up
-from .hypervisor import Facts
+from .hypervisor import Approximate, Facts
 from .layout import MEMORY, Places, Row, Way
 from .rows import SHARED, WIDTH_APART, WIDTH_MORE, dtb_pages_row, hash_row, kernel_pages_row, order_row, ram_ways
 from .sorting import Sorted
@@ -117,6 +117,14 @@ def has_gic_3(guest: Guest) -> bool:
 
 def dump_words(guest: Guest, path: str) -> list[str]:
     raise NotImplementedError("it has no word that writes a devicetree, and no option for its program")
+
+
+def needs(guest: Guest, kept: list[str]) -> list[str]:
+    return []
+
+
+def approximated(machine: str, cpu: str, kept: list[str], model: str) -> Approximate:
+    raise NotImplementedError("it has no option for that")
 
 
 def final_words(guest: Guest) -> list[str]:

@@ -2,6 +2,7 @@
 import concurrent.futures
 import hashlib
 import os
+import platform
 import re
 import shutil
 import stat
@@ -15,9 +16,10 @@ from outside import files, programs
 from outside.faults import Fault
 from outside.programs import Limits, Ran
 from outside.rim import Rim, Tree, tree_of, with_smc
-from outside.texts import last_line, plain, visible
+from outside.texts import last_line, pasted, plain, visible
 
 from .devicetree import psci_method
+from .guest import Guest, Word
 from .hypervisor import Hypervisor
 from .launches import Launch
 
@@ -29,6 +31,10 @@ MOST = 2 << 20
 ROOM = 10_000
 # How long a file may be that a program writes: a devicetree that is too long is seen to be.
 MOST_WRITTEN = MOST + 4096
+
+
+class NotMade(Fault):
+    """A program has written no devicetree."""
 
 
 @dataclass(frozen=True)
@@ -103,15 +109,28 @@ def key_of(launch: Launch) -> tuple:
 
 
 class Program:
-    """The hypervisor's program, which writes a devicetree and ends. `kept`: what it is given of the words after `--`."""
+    """The hypervisor's program, which writes a devicetree and ends. `kept`: what it is given of the words after `--`; `model`: the processor
+    of a devicetree that is only like the realm's, or nothing."""
 
-    def __init__(self, vmm: Hypervisor, path: str, kept: list[str], folder: str):
-        self.vmm, self.path, self.kept, self.folder = vmm, path, kept, folder
+    def __init__(self, vmm: Hypervisor, path: str, kept: list[str], folder: str, model: str = ""):
+        self.vmm, self.path, self.kept, self.folder, self.model = vmm, path, kept, folder, model
 
     def words(self, launch: Launch, path: str) -> list[str]:
-        guest = launch.guest
+        guest, kept = launch.guest, self.kept
+        if self.model:
+            like = self.vmm.approximated(guest.machine.text, guest.cpu.text, kept, self.model)
+            guest, kept = replace(guest, machine=Word(like.machine, ""), cpu=Word(like.cpu, "")), like.kept
         loads = self.vmm.load_words(guest, lambda blob: os.path.join(self.folder, blob.file))
-        return [self.path, *self.vmm.dump_words(guest, path), *loads, *self.kept]
+        return [self.path, *self.vmm.dump_words(guest, path), *loads, *kept]
+
+    def lacking(self, guest: Guest) -> list[str]:
+        """Returns what is missing here for the dumps of a realm."""
+        needs = self.vmm.needs(guest, self.kept) if not self.model else []
+        found = ["this machine has no KVM of arm64"] * ("KVM" in needs and not has_kvm())
+        for name in set(needs) - {"KVM"}:
+            ran = programs.run([self.path, "-object", "help"], Limits(SECONDS))
+            found += [f"it has no object {name}"] * (name.encode() not in ran.out)
+        return found
 
     def run(self, launch: Launch, path: str) -> bytes:
         """The devicetree that one run writes into a folder of its own. A program that goes on after that is stopped."""
@@ -122,8 +141,8 @@ class Program:
             until = None if self.vmm.FACTS.ends_after_dump else lambda: is_whole(path)
             ran = programs.run(self.words(launch, path), Limits(SECONDS, file=MOST_WRITTEN), until=until)
             if not os.path.lexists(path):
-                raise Fault(f"launch {launch.name}: {visible(self.path)} has written no devicetree (status {ran.status}): "
-                            f"{said_by(ran, self.copies(launch))}")
+                raise NotMade(f"launch {launch.name}: {visible(self.path)} has written no devicetree (status {ran.status}): "
+                              f"{said_by(ran, self.copies(launch))}")
             return read(path, f"the devicetree of launch {launch.name}")
         finally:
             shutil.rmtree(folder, ignore_errors=True)
@@ -142,6 +161,22 @@ class Program:
             raise Fault(f"launch {launch.name}: same bytes twice: two dumps of {visible(self.path)} differ from byte {at} on, expected "
                         "equal ones")
         return written(first)
+
+
+def has_kvm() -> bool:
+    return platform.machine() in ("aarch64", "arm64") and os.access("/dev/kvm", os.R_OK | os.W_OK)
+
+
+def commands(program: Program, name: str, launches: list[Launch]) -> str:
+    """Returns the commands by which the program of a name makes the devicetree of each launch on another machine, and how to hand them in."""
+    firsts = {key_of(launch): launch for launch in reversed(launches)}
+    lines, paths = [], []
+    for launch in reversed(firsts.values()):
+        paths.append(f"{launch.name}.dtb")
+        loads = program.vmm.load_words(launch.guest, lambda blob: blob.path)
+        words = [name, *program.vmm.dump_words(launch.guest, paths[-1]), *loads, *program.kept]
+        lines.append(" ".join(map(pasted, words)))
+    return "\n".join([*lines, "# " + " ".join(f"--dtb {pasted(path)}" for path in paths)]) + "\n"
 
 
 def said_by(ran: Ran, copies: dict[str, str]) -> str:

@@ -29,6 +29,16 @@ class Facts:
     host_needs: dict[str, str] = field(default_factory=dict)            # keys that the host's file has to have for it, and why
 
 
+@dataclass(frozen=True)
+class Approximate:
+    """The words of a dump that a plain hypervisor makes of a realm's: the machine, the processor and the other words; and those left out."""
+
+    machine: str
+    cpu: str
+    kept: list[str]
+    left_out: list[str]
+
+
 class Hypervisor(Protocol):
     """What all of rim-manifest asks of a hypervisor. `HYPERVISORS` of vmm/hypervisors.py names those that there are."""
 
@@ -77,6 +87,12 @@ class Hypervisor(Protocol):
 
     def dump_words(self, guest: Guest, path: str) -> list[str]:
         """The words by which its program writes a devicetree to a path; without kernel, initrd and command line."""
+
+    def needs(self, guest: Guest, kept: list[str]) -> list[str]:
+        """Returns what a dump needs that a build machine may lack: KVM, or an object by its name; `kept` are the other words of a dump."""
+
+    def approximated(self, machine: str, cpu: str, kept: list[str], model: str) -> Approximate:
+        """Returns the words of a dump without what a build machine lacks, and with another processor."""
 
     def final_words(self, guest: Guest) -> list[str]:
         """The words of a launch; without kernel, initrd and command line."""

@@ -8,7 +8,7 @@ from outside.faults import WrongWords
 from outside.texts import shown
 
 from .guest import KIB, MIB, PAGE, Blob, Guest, Memory, Processors, Word, up
-from .hypervisor import Facts
+from .hypervisor import Approximate, Facts
 from .kvmtool_words import GRAMMAR, refuse_before, sort, sort_rest  # noqa: F401, what a hypervisor has
 from .layout import MEMORY, Places, Row
 from .rows import SHARED, WIDTH_APART, WIDTH_MORE, dtb_pages_row, hash_row, kernel_pages_row, order_row, ram_ways, width_ways
@@ -136,6 +136,14 @@ def has_gic_3(guest: Guest) -> bool:
 
 def dump_words(guest: Guest, path: str) -> list[str]:
     return ["run", *final_words(guest)[1:], "--dump-dtb", path]
+
+
+def needs(guest: Guest, kept: list[str]) -> list[str]:
+    return ["KVM"]
+
+
+def approximated(machine: str, cpu: str, kept: list[str], model: str) -> Approximate:
+    raise NotImplementedError("it has no option for that")
 
 
 def final_words(guest: Guest) -> list[str]:

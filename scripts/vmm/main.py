@@ -4,7 +4,7 @@ import sys
 
 from outside import ending, files
 from outside.faults import WrongWords
-from outside.texts import shown
+from outside.texts import shown, visible
 from outside.words import VERSION
 
 from . import asked, layout, settling, sorting, words
@@ -56,7 +56,13 @@ def rules_of(vmm: Hypervisor) -> str:
 
 def explain(vmm: Hypervisor, what: Asked) -> int:
     """Prints what each word of a command line does, and refuses those that a launch cannot be made of."""
-    print("".join(f"{effect.value:<9} {text}\n{'':<10}{why}\n" for text, effect, why in what.others.explained()), end="", flush=True)
+    lines = [(effect.value, text, why) for text, effect, why in what.others.explained()]
+    if "approximate_cpu" in what.said:
+        machine, cpu = vmm.read_machine(what.said)[0].text, vmm.read_cpu(what.said)[0].text
+        like = vmm.approximated(machine, cpu, what.others.kept, what.said["approximate_cpu"])
+        lines += [("dump", " ".join(map(visible, like.left_out)), "a dump by --approximate-cpu is not given these"),
+                  ("dump", visible(f"-machine {like.machine} -cpu {like.cpu}"), "a dump by --approximate-cpu has these instead")]
+    print("".join(f"{effect:<9} {text}\n{'':<10}{why}\n" for effect, text, why in lines), end="", flush=True)
     first_faults(what.others.raise_faults, lambda: asked.values(vmm, what))
     return 0
 

@@ -9,13 +9,13 @@ from outside.faults import Fault, WrongWords
 from outside.texts import shown
 
 from .guest import GIB, MIB, PAGE, Blob, Guest, Memory, Processors, Word, up
-from .hypervisor import Facts
+from .hypervisor import Approximate, Facts
 from .layout import MEMORY, SEEN, SOURCE, Places, Row, Way
 from .names import labelled
-from .qemu_words import GRAMMAR, OFF, ON, parts, refuse_before, refuse_machine_words, sort, sort_rest  # noqa: F401, what a hypervisor has
+from .qemu_words import GRAMMAR, OFF, ON, joined, parts, properties, refuse_before, refuse_machine_words, sort, sort_rest  # noqa: F401, what a hypervisor has
 from .realm import granule_of
 from .rows import SHARED, WIDTH_APART, WIDTH_MORE, dtb_pages_row, hash_row, kernel_pages_row, order_row, ram_ways, width_ways
-from .sorting import Sorted
+from .sorting import Given, Sorted
 from .words import Option, memories, number, processors, required, size
 
 NAME = "qemu"
@@ -58,6 +58,8 @@ OPTIONS = [
     Option(("--qemu",), "program", "PROGRAM", "QEMU itself, which makes the devicetrees: each by the final words with "
            "dumpdtb= and dtb-randomness=off, twice. Of other words it is given what changes a devicetree, and nothing that opens "
            "a file or a socket. Not needed where a whole line is after `--`: then it is the program of that line"),
+    Option(("--approximate-cpu",), "approximate_cpu", "MODEL", "where --qemu cannot make the devicetree of a realm: have it make one without "
+           "rme-guest and KVM, with this processor model. It is not that of the realm, and each manifest says so"),
     Option(("--stub",), "stub", "WHICH", "the row stub: whether QEMU's boot stub is part of the realm: `none`, where the first processor "
            "begins at the kernel; or `measured`, where it begins at the stub"),
 ]
@@ -353,6 +355,36 @@ def dump_words(guest: Guest, path: str) -> list[str]:
     nothing in the devicetree, and spare what QEMU adds by itself: a network card whose file may be missing, a window, its monitor."""
     doubled = path.replace(",", ",,")
     return [*with_machine(guest, f",dumpdtb={doubled}"), *QUIET]
+
+
+# The words of -machine that a dump without KVM and rme-guest is not given, and the value of gic-version that needs KVM.
+OF_REALM = ("confidential-guest-support", "accel", "kernel-irqchip")
+OF_HOST = "gic-version=host"
+
+
+def is_realm(given: Given) -> bool:
+    return given.name == "-object" and properties(given.name, given.value, "qom-type").get("qom-type") == "rme-guest"
+
+
+def needs(guest: Guest, kept: list[str]) -> list[str]:
+    machine, given = machine_words(guest.machine.text), [each for each, _ in GRAMMAR.each(kept)]
+    accels = [each.value.split(",")[0] for each in given if each.name == "-accel"] or [machine.get("accel", "")]
+    is_kvm = parts(guest.cpu.text)[0] == "host" or machine.get("gic-version") == "host" or set(accels) == {"kvm"}
+    is_kvm = is_kvm or any(each.name == "-enable-kvm" for each in given)
+    return ["KVM"] * is_kvm + ["rme-guest"] * any(map(is_realm, given))
+
+
+def approximated(machine: str, cpu: str, kept: list[str], model: str) -> Approximate:
+    """A devicetree shows no word of -cpu but the model and pmu=."""
+    kind, *words = parts(machine)
+    left_out = [word for word in words if word.partition("=")[0] in OF_REALM or word == OF_HOST]
+    others = [word for word in words if word not in left_out] + ["gic-version=3"] * (OF_HOST in left_out)
+    old, *of_cpu = parts(cpu)
+    shows = [word for word in of_cpu if word.startswith("pmu=")]
+    rest: list[str] = []
+    for given, _ in GRAMMAR.each(kept):
+        (left_out if given.name in ("-accel", "-enable-kvm") or is_realm(given) else rest).extend(given.words)
+    return Approximate(joined([kind, *others]), joined([*parts(model), *shows]), rest, [*left_out, f"-cpu {old}", *(word for word in of_cpu if word not in shows)])
 
 
 def final_words(guest: Guest) -> list[str]:

@@ -136,7 +136,7 @@ class Work:
         self.lists["algo"], self.algo_from = asked.algorithms(said, others.realm, self.chosen["hash"])
         asked.check_features(vmm, self.lists["cpu"], others, self.host, is_settled)
         self.lists["append"] = words.appends("--append", asked.command_lines(what))
-        self.program_line, self.version = "", str(self.host["hypervisor_version"] or "")
+        self.program_name, self.program_line, self.version = "", "", str(self.host["hypervisor_version"] or "")
         self.rim = Rim("")
         ending.say("rim-manifest", *(f"warning: {each}" for each in asked.warnings(vmm, what, self.lists["machine"])))
 
@@ -158,6 +158,8 @@ class Work:
         if not given:
             names = [source_name(self.vmm, key) for key in SOURCES if key == "dtb" or any(option.key == key for option in self.vmm.OPTIONS)]
             raise WrongWords(f"{' and '.join(names)}: none is given, expected one of them for the devicetrees")
+        if "program" not in self.said and "approximate_cpu" in self.said:
+            raise WrongWords(f"--approximate-cpu: no devicetree is made here, expected {option_names(self.vmm, 'program')} too")
         if "program" in self.said and self.what.others.opens:
             opens = sorting.listed([shown(str(each)) for each in self.what.others.opens])
             raise WrongWords(f"{opens}: in the devicetree, and making one would open what a guest has open, expected --dtb with the "
@@ -168,7 +170,7 @@ class Work:
         self.rim = started()
         if "program" not in self.said:
             return
-        path = self.said["program"]
+        path = self.program_name = self.said["program"]
         self.said["program"] = shutil.which(path) or path
         self.program_line, version = dumps.version(self.said["program"])
         if self.version and version != self.version:
@@ -208,6 +210,12 @@ class Work:
         without |= {key: not self.host[flag] for flag, key in parameters.FLAGGED}
         return {name: each for name, each in self.chosen.items() if name in names and not without.get(name)}
 
+    def approximate(self) -> dict[str, Chosen]:
+        """What the manifest says of devicetrees that are only like those of the realm, as of a row."""
+        model = self.said.get("approximate_cpu")
+        row = Row("approximate_cpu", "", None, "", layout.MEMORY, (layout.Way(str(model), LIKE, 0),))
+        return {row.name: Chosen(row, str(model), "--approximate-cpu")} if model else {}
+
     def trees(self, made: Folder, found: list[Launch]) -> dict[str, dumps.Dump]:
         def differences(launch: Launch, dump: dumps.Dump) -> list[checks.Difference]:
             return checks.of_tree(self.vmm, launch, dump, bool(self.host["pmu"]) if self.is_settled else None)
@@ -217,8 +225,23 @@ class Work:
             if "own_dtb" in self.said:
                 return dumps.own(self.said["own_dtb"], self.chosen["dtb_file"].name == "padded", reader, found)
             if "program" in self.said:
-                return dumps.made(dumps.Program(self.vmm, self.said["program"], self.what.others.kept, made.path), reader, found)
+                return self.made_here(dumps.Program(self.vmm, self.said["program"], self.what.others.kept, made.path, self.said.get("approximate_cpu", "")), reader, found)
             return dumps.handed_in(self.said["dtb"], reader, found, differences)
+
+    def made_here(self, program: dumps.Program, reader: dumps.Reader, found: list[Launch]) -> dict[str, dumps.Dump]:
+        """The devicetrees that the program makes; if this machine cannot make those of a realm, a fault with what to do instead."""
+        try:
+            return dumps.made(program, reader, found)
+        except dumps.NotMade as why:
+            lacking = program.lacking(found[0].guest)
+            if not lacking:
+                raise
+            has_option = self.is_settled and any(option.key == "approximate_cpu" for option in self.vmm.OPTIONS)
+            instead = f"; or give --approximate-cpu MODEL for {LIKE}" if has_option else ""
+            fault = Fault(f"{why.lines[0]}; {' and '.join(lacking)}: run the commands below on the machine of the realm, and give what they "
+                          f"write by the options in the last line, without {option_names(self.vmm, 'program')}{instead}")
+            fault.block = dumps.commands(program, self.program_name, found)
+            raise fault from None
 
     def place_files(self, made: Folder, found: list[Launch], trees: dict[str, dumps.Dump]):
         """Writes the devicetrees and the stubs, and makes of each launch what a manifest says of it."""
@@ -286,7 +309,8 @@ class Work:
         different = {(each.packed, each.length): each.tree for each in loaded}
         warnings = [*checks.warnings(list(different.values())), *checks.of_console(found), *self.unsettled(found, trees)]
         line = self.what.line.words if self.what.line and not self.what.line.program else []
-        about = manifest.About(self.vmm, self.words, line, self.host, self.taken(), self.algo_from, self.table, self.made_by(), warnings,
+        warnings += [f"--approximate-cpu: these are {LIKE}" for _ in self.approximate()]
+        about = manifest.About(self.vmm, self.words, line, self.host, self.taken() | self.approximate(), self.algo_from, self.table, self.made_by(), warnings,
                                ["-dtb", self.said["own_dtb"]] if "own_dtb" in self.said else [])
         groups = launches.groups(found)
         manifests = ["manifest.toml"] if len(groups) == 1 else [f"manifest-{number}.toml" for number in range(1, len(groups) + 1)]
@@ -318,6 +342,9 @@ def option_names(vmm: Hypervisor, key: str) -> str:
     return next(", ".join(option.names) for option in vmm.OPTIONS if option.key == key)
 
 
+# What --approximate-cpu makes.
+LIKE = ("devicetrees of a plain guest with that processor, without KVM and rme-guest, in which compatible, caches and PMU of the processors, "
+        "the interrupt controller and windows may differ from the realm's, and so the measurement")
 # By the keys of the options, where devicetrees come from.
 SOURCES = ("program", "own_dtb", "dtb")
 

@@ -43,6 +43,7 @@ WRONG = [
     ("no devicetree", QEMU, "--qemu and -dtb and --dtb: none is given"),
     ("a devicetree of two sources", [*WITH_TREE, "-dtb", "tree"], "-dtb and --dtb: both are given, expected one of them for the devicetrees"),
     ("two sources of devicetrees", [*WITH_TREE, "--qemu", "qemu"], "--qemu and --dtb: both are given"),
+    ("a processor of no dump", [*WITH_TREE, "--approximate-cpu", "cortex-a76"], "--approximate-cpu: no devicetree is made here, expected --qemu too"),
     ("firmware after --", [*QEMU, "--qemu", "q", "--", "-bios", "x"], "-bios x: it is of what the table places, expected it before `--`"),
     ("firmware and kernels", [*WITH_TREE, "-bios", "x", "-kernel", "b"], "-bios: it is given, and 2 kernels are, expected at most one"),
     ("kvmtool: firmware and a kernel", [*KVMTOOL, "--firmware", "x"], "-f, --firmware: it is given, and so is kernel, expected firmware alone"),

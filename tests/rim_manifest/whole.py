@@ -134,6 +134,61 @@ def one_step(program: str):
         return wrong + differs("a fault", (status, out, folder.names() - before), (3, "", {"out"}))
 
 
+OF_REALM = ["-M", "virt,gic-version=host,confidential-guest-support=r", "-object", "rme-guest,id=r,measurement-algorithm=sha256", "-enable-kvm", "-cpu",
+            "host,pmu=on,sve=off", "-m", "256M", "-accel", "kvm", "-smp", "2", "-kernel", "Image", "-serial", "null"]
+COMMAND = ("./qemu-system-aarch64 -machine virt,gic-version=host,confidential-guest-support=r,dumpdtb=256M-smp{0}-Image-no-initrd-sha256.dtb,"
+           "dtb-randomness=off -cpu host,pmu=on,sve=off -smp {0} -m 256M -nodefaults -display none -S -kernel Image "
+           "-object rme-guest,id=r,measurement-algorithm=sha256 -enable-kvm -accel kvm -serial null")
+LIKE_IT = """\
+-machine
+virt,gic-version=3,dumpdtb=,dtb-randomness=off
+-cpu
+cortex-a76,pmu=on
+-smp
+2
+-m
+256M
+-nodefaults
+-display
+none
+-S
+-kernel
+
+-serial
+null
+"""
+
+
+def of_realm(program: str):
+    """The line of a realm, of which the program makes no devicetree: the commands that do on another machine, whose files are then taken; and
+    devicetrees of a plain guest in their place."""
+    asked = ["qemu", "--host", "host.toml", "--out", "out"]
+    line = ["--each-smp", "1,2", "--", QEMU_NAME, *OF_REALM]
+    with Folder(TREES | {"fail": b""}) as folder:
+        folder.put(QEMU_NAME, STAND_IN.encode(), is_program=True)
+        status, out, said = folder.run(*asked, *line)
+        first, *commands, last = said.splitlines()[1:]
+        wrong = differs("status", (status, out, commands), (3, "", [COMMAND.format(1), COMMAND.format(2)]))
+        wrong += differs("the fault", [text in first for text in ("a stand-in: no such word", "it has no object rme-guest", "--approximate-cpu MODEL")], [True] * 3)
+        os.remove(os.path.join(folder.path, "fail"))
+        subprocess.run(["sh", "-c", "\n".join(commands)], cwd=folder.path, check=True, timeout=SECONDS)
+        status, out, said = folder.run(*asked, *last.removeprefix("# ").split(" "), *line)
+        wrong += differs("the files", (status, out, said.count("\n")), (0, "out/manifest.toml: 2 launches, 3 files\n", 1)) + read_by(program, folder, count=2)
+        os.remove(os.path.join(folder.path, "said"))
+        status, out, said = folder.run(*asked, "--force", "--approximate-cpu", "cortex-a76", "--", QEMU_NAME, *OF_REALM)
+        given = re.sub("dumpdtb=[^,]*|/.*", lambda found: found[0][:8] * (found[0][0] == "d"), folder.read("said").decode())
+        wrong += differs("approximate", (status, given.split("--version\n")[-1]), (0, LIKE_IT * 2))
+        head = folder.read("out/manifest.toml").decode()
+        wrong += differs("what is said", [each in head for each in ("# Warning: --approximate-cpu: these are devicetrees of a plain guest",
+                                          "#   approximate_cpu = cortex-a76 (given; by --approximate-cpu): devicetrees of a plain guest")]
+                         + ["warning: --approximate-cpu: these are devicetrees of a plain guest" in said], [True] * 3)
+        status, out, _ = folder.run("qemu", "--explain", "--approximate-cpu", "cortex-a76", "--", QEMU_NAME, *OF_REALM)
+        dump = [each for each in out.splitlines() if each.startswith("dump")]
+        return wrong + differs("--explain", (status, dump), (0, [
+            "dump      gic-version=host confidential-guest-support=r -object rme-guest,id=r,measurement-algorithm=sha256 -enable-kvm -accel kvm "
+            "-cpu host sve=off", "dump      -machine virt,gic-version=3 -cpu cortex-a76,pmu=on"]))
+
+
 EXPLAINED = """\
 layout    -M virt,secure=on
 refused     secure=on

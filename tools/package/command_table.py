@@ -119,6 +119,7 @@ RIM_MANIFEST = Program(
             Option(("-dtb",), "The devicetree that QEMU itself is given", FILE),
             Option(("--libvirt",), "A domain of libvirt, as virsh dumpxml prints it", FILE),
             Option(("--qemu",), "QEMU itself, which makes the devicetrees", PROGRAM),
+            Option(("--approximate-cpu",), "The processor of devicetrees that are not those of the realm", TEXT),
             Option(("--stub",), "Whether the boot stub is part of the realm", ("none", "measured")),
         )),
         Command("kvmtool", "A manifest from the words of kvmtool", (), (
