@@ -408,7 +408,7 @@ MISBEHAVING = [
     ("deep", "head -c 100000 /dev/zero | tr '\\0' '['", ["--json"], 3, "a report of rim is none ("),
     ("one launch thrice", "echo '{\"files\":[],\"launches\":[{\"name\":\"a\"}],\"pages\":1,\"program\":\"p\",\"version\":4}'", ["--json"], 3,
      "('two launches have one name')"),
-    ("endless", "exec yes", [], 3, "manifest-1.toml: status -25"), ("killed", "kill -9 $$", [], 3, "manifest-1.toml: status -9"),
+    ("endless", "exec yes", [], 3, "manifest-1.toml: ended by signal 25"), ("killed", "kill -9 $$", [], 3, "manifest-1.toml: ended by signal 9"),
     ("wrong words", "exit 2", ["--jso"], 2, "manifest-1.toml: status 2\n"), ("no memory", "exit 4", [], 4, "manifest-1.toml: status 4\n"),
     ("a fault", "exit 3", [], 3, "manifest-1.toml: status 3\n"), ("status 77", "exit 77", [], 3, "status 77\n"),
     ("one that goes on", "sleep 1000 &\nexec /bin/false", [], 3, "a report of rim is none ("),
@@ -535,7 +535,7 @@ def faults(program: str) -> list[str]:
     here = folder()
     keep(program, here)
     wrong = []
-    for body, said in (("echo 'rim: no-memory' >&2; exit 4", "rim: no-memory"), ("kill -9 $$", "rim: status -9")):
+    for body, said in (("echo 'rim: no-memory' >&2; exit 4", "rim: no-memory"), ("kill -9 $$", "rim: ended by SIGKILL")):
         here.put("fake", f"#!/bin/sh\n[ \"$1\" = --version ] && exit 0\n{body}\n".encode(), is_program=True)
         wrong += differs(body, here.run("kept.json", "m.toml", start=START, RIM="./fake"), (3, "", f"rim-compare: {said}\n"))
     return wrong

@@ -514,7 +514,7 @@ def changes(program: str) -> list[str]:
 MISBEHAVING = [
     ("no JSON", "check", "echo none", "it is no JSON that is read here"), ("no check", "check", "echo '{}'", "status is missing, or is no whole number"),
     ("a fault without status", "check", 'echo \'{"faults":["x"],"status":0,"version":1,"warnings":[]}\'', "status 0 with 1 faults"),
-    ("no memory", "check", "echo 'rim: no-memory' >&2; exit 4", "rim: no-memory"), ("killed", "measure", "kill -9 $$", "rim: status -9"),
+    ("no memory", "check", "echo 'rim: no-memory' >&2; exit 4", "rim: no-memory"), ("killed", "measure", "kill -9 $$", "rim: ended by SIGKILL"),
     ("an older report", "measure", 'echo \'{"version":2,"launches":[]}\'', "its reports have version 2"),
     ("no map", "map", "echo '{}'", "version is missing, or is no whole number"), ("another map", "map", f'exec PROGRAM map --json {EXAMPLE} one-vcpu',
                                                                                     "are of other items"),

@@ -185,7 +185,7 @@ def read_data() -> list[str]:
 # A body of a shell's script, its limits, and what comes of it: status, output, what it has said, or a fault.
 RUNS = [
     ("echo out; echo err >&2; exit 5", Limits(), (5, b"out\n", "err")),
-    ("kill -9 $$", Limits(), (-9, b"", "status -9")),
+    ("kill -9 $$", Limits(), (-9, b"", "ended by SIGKILL")),
     ("sleep 1000 & echo out", Limits(), (0, b"out\n", "status 0")),
     ("exec >&- 2>&-; sleep 0.1; exit 3", Limits(), (3, b"", "status 3")),
     ("yes >&2 & sleep 0.2; echo out", Limits(), (0, b"out\n", "y")),

@@ -115,7 +115,7 @@ class Runs:
             before, line, _ = ran.out.decode("ascii", errors="replace").partition(f" {value.algo} {value.digits}\n")
             return Outcome(int(before.rsplit("\n", 1)[-1]) if line else None, ran.out.count(b" refused "))
         if ran.status < 0 or ran.status > 4 or any(word in ran.said for word in FAULTS):
-            raise Fault(f"{visible(self.rim.path)} measure: status {ran.status}: {ran.said}")
+            raise Fault(f"{visible(self.rim.path)} measure: {ran.ended}: {ran.said}")
         if len(launches) == 1:
             return Outcome(None, 1)
         half = len(launches) // 2

@@ -53,7 +53,7 @@ class Dumper:
         ran = programs.run([self.program, *words.line(path)], Limits(SECONDS, file=MOST_TREE + 4096))
         if not os.path.lexists(path):
             said = last_line(ran.err.decode(errors="surrogateescape"))
-            raise Fault(f"{visible(self.program)} has written no devicetree (status {ran.status}): {said}")
+            raise Fault(f"{visible(self.program)} has written no devicetree ({ran.ended}): {said}")
         data = files.read(path, MOST_TREE, "a devicetree")
         os.remove(path)
         return next(with_smc(data), data) if self.is_of_realm else data

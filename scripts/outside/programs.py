@@ -49,9 +49,17 @@ class Ran:
     is_cut: bool = False
 
     @property
+    def ended(self) -> str:
+        """How it has ended: by itself with a status, or by a signal."""
+        if self.status >= 0:
+            return f"status {self.status}"
+        names = {each.value: each.name for each in signal.Signals}
+        return f"ended by {names.get(-self.status, f'signal {-self.status}')}"
+
+    @property
     def said(self) -> str:
-        """The last line that it has said on standard error, or what its status is. By `--explain` that of `rim` is why."""
-        return last_line(self.err.decode(errors="surrogateescape"), f"status {self.status}")
+        """The last line that it has said on standard error, or how it has ended. By `--explain` that of `rim` is why."""
+        return last_line(self.err.decode(errors="surrogateescape"), self.ended)
 
 
 class SaysTooMuch(Fault):
@@ -189,5 +197,5 @@ def check(path: str) -> str:
     """The version of `rim`, which is started once and says what it has to: the script of a checkout may first have to build it."""
     ran = Running([path, "--version"], shows=True).wait()
     if ran.status:
-        raise Fault(f"{visible(path)} --version: status {ran.status}, expected the program rim")
+        raise Fault(f"{visible(path)} --version: {ran.ended}, expected the program rim")
     return last_line(ran.out.decode(errors="replace"), "").removeprefix("rim ")

@@ -33,7 +33,7 @@ class Rim:
 
     def run(self, *words: str, limits: Limits = REPORT, folder: str | None = None) -> Ran:
         ran = programs.run([self.path, *words], limits, folder)
-        return replace(ran, err=ran.err if ran.err.strip() else f"rim: status {ran.status}".encode())
+        return replace(ran, err=ran.err if ran.err.strip() else f"rim: {ran.ended}".encode())
 
 
 def started() -> Rim:

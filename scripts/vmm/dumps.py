@@ -141,7 +141,7 @@ class Program:
             until = None if self.vmm.FACTS.ends_after_dump else lambda: is_whole(path)
             ran = programs.run(self.words(launch, path), Limits(SECONDS, file=MOST_WRITTEN), until=until)
             if not os.path.lexists(path):
-                raise NotMade(f"launch {launch.name}: {visible(self.path)} has written no devicetree (status {ran.status}): "
+                raise NotMade(f"launch {launch.name}: {visible(self.path)} has written no devicetree ({ran.ended}): "
                               f"{said_by(ran, self.copies(launch))}")
             return read(path, f"the devicetree of launch {launch.name}")
         finally:

@@ -70,12 +70,14 @@ PREFIXES = {
 
 @dataclass
 class Command:
-    """A command of a shell: its position, its words, and the positions of its first expansion and of the first one that is not simple."""
+    """A command of a shell: its position, its words, and the positions of its first expansion, of the first one that is not simple, and of the
+    comment by which the command before it ends."""
 
     at: int
     words: list[str] = field(default_factory=list)
     expands: int | None = None
     computes: int | None = None
+    comment: int | None = None
 
     def add(self, at: int, word: str):
         """Adds a word at a position of a text."""
@@ -131,7 +133,7 @@ def unquoted(word: str) -> str:
 
 def read(text: Text) -> list[Command]:
     """Returns the commands of a text. Parentheses are one by themselves."""
-    commands, command, is_target = [], Command(0), False
+    commands, command, comment, is_target = [], Command(0), None, False
     for found in TOKEN.finditer(text.text):
         kind, at = found.lastgroup, found.start()
         if kind == "open":
@@ -143,9 +145,11 @@ def read(text: Text) -> list[Command]:
             command.add(at, found[0])
         elif kind == "parenthesis" and command.words and command.expands is None:
             command.expands = at
+        if kind == "comment" and command.words:
+            comment = at
         if kind in ("end", "parenthesis"):
             commands += [command] * bool(command.words) + [Command(at, [found[0]])] * (kind == "parenthesis")
-            command = Command(at)
+            command, comment = Command(at, comment=comment if command.words else command.comment), None
         is_target = kind == "redirect" or is_target and kind in ("blank", "comment")
     return commands + [command] * bool(command.words)
 
@@ -210,7 +214,9 @@ def commands_of(path: str) -> tuple[Text, list[Command]]:
             raise text.fault(text.text.index(letter), name)
     commands = read(text)
     if cut := next((each for each in commands if each.words[0].startswith("-")), None):
-        raise text.fault(cut.at, f"a command begins with {shown(cut.words[0])}, expected a backslash at the end of the line before it")
+        why = ("a backslash at the end of the line before it" if cut.comment is None else
+               f"no comment in line {text.line(cut.comment)}, where it ends the command, with a backslash after it too")
+        raise text.fault(cut.at, f"a command begins with {shown(cut.words[0])}, expected {why}")
     return text, commands
 
 

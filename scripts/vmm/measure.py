@@ -144,7 +144,8 @@ def run(words: list[str]) -> int:
         statuses.append(status if 0 <= status <= 4 else 3)
         reports.append(report)
         if statuses[-1] > 1:
-            print(f"measure: {name}: status {status}", file=sys.stderr)
+            how = f"status {status}" if status >= 0 else f"ended by signal {-status}"
+            print(f"measure: {name}: {how}", file=sys.stderr)
     if max(statuses) <= 1:
         sys.stdout.buffer.write(joined(reports, "--json" in words))
     return max(statuses)

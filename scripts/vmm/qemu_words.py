@@ -42,8 +42,7 @@ class MachineWord:
 
 
 MACHINE = [
-    MachineWord(("gic-version",), Effect.TREE, "the interrupt controller: GIC 2 is one that no realm has", "gic-version=3",
-                ("3", "4", "max", "host")),
+    MachineWord(("gic-version",), Effect.TREE, "the interrupt controller", "gic-version=3", ("3", "4", "max", "host")),
     MachineWord(("its", "iommu", "default-bus-bypass-iommu"), Effect.TREE, "nodes of the interrupt controller and of PCIe"),
     MachineWord(("highmem", "highmem-ecam", "highmem-mmio", "highmem-mmio-size", "highmem-redists", "compact-highmem"), Effect.LAYOUT,
                 "windows of devices, and with them the width of an IPA"),
@@ -62,7 +61,7 @@ MACHINE = [
     MachineWord(("firmware", "pflash0"), Effect.LAYOUT, FIRMWARE, "-bios FILE", is_of_line=True),
     MachineWord(("pflash1",), Effect.REFUSED, "a flash for variables", "none"),
     MachineWord(("dtb",), Effect.REFUSED, "rim-manifest reads no file of it", "-dtb FILE"),
-    MachineWord(("dumpdtb",), Effect.REFUSED, "rim-manifest adds it itself", "--qemu PROGRAM"),
+    MachineWord(("dumpdtb",), Effect.REFUSED, "QEMU writes a devicetree and starts no guest", "no such word; --dtb takes the file, and --qemu makes one"),
     MachineWord(("kernel",), Effect.REFUSED, "rim-manifest reads no file of it", "-kernel FILE"),
     MachineWord(("initrd",), Effect.REFUSED, "rim-manifest reads no file of it", "-initrd FILE"),
     MachineWord(("append",), Effect.REFUSED, "rim-manifest reads no text of it", "-append TEXT"),
@@ -93,7 +92,8 @@ def machine_fault(word: str) -> str | None:
     if not equals:
         return f"-machine: {shown(word)} has no value, expected {key}=VALUE"
     if row.instead and value not in row.passes:
-        return f"-machine: {shown(word)}: {row.does}, expected {row.instead.format(key)}"
+        does = "GIC 2, which no realm has" if word == "gic-version=2" else row.does
+        return f"-machine: {shown(word)}: {does}, expected {row.instead.format(key)}"
     return None
 
 

@@ -24,7 +24,7 @@ BAD_PROGRAMS = [
     ("says escapes", r"printf 'a\033[2Jb\n' >&2; exit 1", "(status 1): a\\x1b[2Jb"),
     ("names a copy", 'while [ "$1" != -kernel ]; do shift; done; echo "no $2 here" >&2; exit 1', "(status 1): no Image here\n"),
     ("says nothing", "exit 9", "has written no devicetree (status 9): it says nothing"),
-    ("is killed", "kill -9 $$", "has written no devicetree (status -9)"),
+    ("is killed", "kill -9 $$", "has written no devicetree (ended by SIGKILL): it says nothing"),
 ]
 BAD_PROGRAM = r"""#!/bin/sh
 [ "$1" = --version ] && echo "QEMU emulator version 10.0.2 (a stand-in)" && exit
