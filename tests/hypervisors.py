@@ -26,7 +26,7 @@ from helpers.tries import PROCESSORS, Outcome, at_a_time, program_of, told, trie
 from rim_manifest import forced, hostile, lines, options, places, stops, tables, whole
 
 # The tries that are a function each, which is given the program.
-LOOKS = (lines.as_a_shell, lines.known, whole.pasted, whole.machine_recorded, whole.one_step, whole.of_realm, whole.explained, whole.long_names, whole.matrix, whole.measured, forced.forced,
+LOOKS = (lines.as_a_shell, lines.variables, lines.known, whole.pasted, whole.machine_recorded, whole.one_step, whole.of_realm, whole.explained, whole.long_names, whole.matrix, whole.measured, forced.forced,
          forced.not_forced, forced.stopped_midway, hostile.bad_programs, hostile.signals, hostile.full, whole.read_once, whole.odd_names,
          hostile.fifos, hostile.unharmed, whole.started, whole.texts, tables.types, tables.documents)
 

@@ -21,10 +21,10 @@ SHELL = "f() { for w; do printf '%s\\001' \"$w\"; done; printf '\\002'; }\n"
 PIECES = ["a", "b", " ", "'", '"', "\\", "\n", "#", "\t", "\\\n", "-x", "é", "=", "%", "!", "^", "]", "}", ",", "f ", ";"]
 
 
-def read_by_shell(text: str, folder: str) -> list[list[str]] | None:
-    """The words of each command `f` of a text as the shell of this machine reads them; None where it takes no such text."""
-    ran = subprocess.run(["sh", "-c", SHELL + text], capture_output=True, check=False, cwd=folder, timeout=SECONDS)
-    found = [words.split("\1")[:-1] for words in ran.stdout.decode().split("\2")[:-1]]
+def read_by_shell(text: str, folder: str, shell: str = "sh") -> list[list[str]] | None:
+    """The words of each command `f` of a text as a shell of this machine reads them; None where it takes no such text."""
+    ran = subprocess.run([shell, "-c", SHELL + text], capture_output=True, check=False, cwd=folder, timeout=SECONDS)
+    found = [words.split("\1")[:-1] for words in ran.stdout.decode(errors="replace").split("\2")[:-1]]
     return None if b"yntax error" in ran.stderr or b"nterminated" in ran.stderr else found
 
 
@@ -45,11 +45,45 @@ def as_a_shell(_program: str):
     return wrong + differs("many are read", count > 50, True)
 
 
+# What a random script sets variables and arrays to, and where it uses them.
+SETS = ["A=x", "A='x  y'", 'A=" x "', "B=", "B=$A", 'B="$A z"', "B=${A}z", "A='*'", "export B='p q'", "A=x; B=y", "A=x |\n echo >a", "echo >a && A=y", "A=x &", "A='a\"b'"]
+ARRAYS = ["L=(a 'b c')", "L+=($A d)", "L=(\n# none\n$B \"$B\"\n)", "L=()"]
+USES = ["$A", "${B}", '"$A"', "'$A'", '"-$B-"', "a", " ", '"', "\\$A", '""', "e=$A", "\n", "'q r'"]
+
+
+def variables(_program: str):
+    """Variables that lines set are read as the shell of this machine reads them, and arrays as bash does, if it is installed."""
+    wrong, draw, counts = [], random.Random(2), {}
+    with Folder() as folder:
+        for number in range(400):
+            shell, sets, uses = ("sh", SETS, USES) if number % 2 else ("bash", SETS + ARRAYS, [*USES, ' "${L[@]}" '])
+            text = "\n".join([*(draw.choice(sets) for _ in range(draw.randrange(1, 5))), "f " + "".join(draw.choice(uses) for _ in range(draw.randrange(1, 7)))])
+            try:
+                has = [each.words[1:] for each in read(Text("text", text)) if each.words[0] == "f" and each.expands is None]
+            except Fault:
+                continue
+            expected = read_by_shell(text, folder.path, shell) if has and shutil.which(shell) else None
+            if expected is not None:
+                wrong += differs(f"{shell}: {text!a}", has, expected)
+                counts[shell] = counts.get(shell, 0) + 1
+    return wrong + differs("many are read", min(counts.values()) > 50, True)
+
+
 # What may come before a command line.
 BEFORE = ["#!/bin/sh\n# a ( comment \\\n", "set -eu -o pipefail; export A B=c\necho \"$A\" ${B} * &&\n", "A=b C='d e'\n", "sudo -E -u root A=b ", "A=b env -i -u C D=e ",
           "exec nohup setsid -w nice -n 5 ionice -c2 -n 7 ", "time -p timeout -k 5 --signal=INT 1h ", "taskset -c 0-3 chrt -f 1 ", "doas -u root ",
           "numactl -C 0-3 --membind=0 -l stdbuf -oL -e 0 ", "/usr/bin/env nice -10 /usr/bin/sudo ",
-          "2026-11-02 09:14:07.512+0000: starting up; can't (\n", "\t>log 2>&1 \\\n "]
+          "2026-11-02 09:14:07.512+0000: starting up; can't (\n", "\t>log 2>&1 \\\n ", "command -v qemu-system-aarch64 >/dev/null || exit 1\n",
+          "which qemu-system-aarch64 || { echo none; exit 1; }\nqemu-system-aarch64 --version\n", "echo qemu-system-aarch64 -M virt\n",
+          "if ! command -v qemu-system-aarch64 >/dev/null 2>&1; then\n  echo none\n  exit 1\nfi\n", "[ -e Image ] && [ -r * ]\n"]
+# Scripts that set what they use, each with the words after the program.
+SCRIPTS = [
+    ("K=Image\nD=/a\nQ=qemu-system-aarch64\nexport M\n$Q -kernel $D/$K -initrd \"${D}/b c\" -append 'a $K'", ["-kernel", "/a/Image", "-initrd", "/a/b c", "-append", "a $K"]),
+    ('O="-m 1G  -smp 2"\nQ=/usr/bin/qemu-system-aarch64; E=\nexec "$Q" $O -append "$O" $E', ["-m", "1G", "-smp", "2", "-append", "-m 1G  -smp 2"]),
+    ('M=2G  # RAM\nargs=(\n  -m $M   # RAM\n  -append "a b"\n)\nargs+=(-smp 2)\nqemu-system-aarch64 "${args[@]}" -S',
+     ["-m", "2G", "-append", "a b", "-smp", "2", "-S"]),
+    ('cmd=(sudo -E qemu-system-aarch64 -m 1G)\n"${cmd[@]}" -S', ["-m", "1G", "-S"]), ("M=1G &&\nqemu-system-aarch64 -m $M", ["-m", "1G"]),
+]
 
 
 def known(_program: str):
@@ -58,6 +92,9 @@ def known(_program: str):
     for before in BEFORE:
         with Folder({"l": (before + HAND).encode()}) as folder:
             wrong += differs(before, of_file(os.path.join(folder.path, "l"), "qemu-system-aarch64", "QEMU", False), HAND.split()[1:])
+    for script, expected in SCRIPTS:
+        with Folder({"l": script.encode()}) as folder:
+            wrong += differs(script, of_file(os.path.join(folder.path, "l"), "qemu-system-aarch64", "QEMU", False), expected)
     with Folder({"l": f"cd other\n{HAND}".encode()}) as folder:
         wrong += differs("cd with -C", of_file(os.path.join(folder.path, "l"), "qemu-system-aarch64", "QEMU", True), HAND.split()[1:])
     return wrong

@@ -344,11 +344,27 @@ LINE_STOPS = [
     ("cloud-hypervisor: a word twice", "cloud-hypervisor", "cloud-hypervisor --kernel a --kernel b", 2, "--kernel: it is given 2 times, expected once"),
     ("cloud-hypervisor: a word of its platform", "cloud-hypervisor", "cloud-hypervisor --kernel Image --platform tdx=on", 2, '"tdx" changes is not'),
     ("a long command line of the kernel", "qemu", HAND + " -append " + "a" * (1 << 19), 2, "has 524288 bytes, expected at most 65536"),
-    ("a variable", "qemu", "K=Image\n" + HAND + ' -initrd "$K"', 3, 'l: line 2: "$K\\"": a shell would expand it, and none is run, expected'),
-    ("a command in a command", "qemu", HAND + " -initrd `ls`", 3, 'l: line 1: "`ls`": a shell would expand it'),
+    *[(f"a variable after {before!r}", "qemu", f"{before}\n{HAND}" + ' -initrd "$K"', 3, f'l: line {before.count(chr(10)) + 2}: "$K\\"": a shell would '
+       "expand it, and no shell is run; give -initrd its value, or single quotes") for before in (
+          "# K=Image", "K=Image &", "echo a | K=Image", "echo a && K=Image", "K=Image | echo a", "K=Image; if echo a; then\nK=b; fi", "K=Image >a", "K=~/Image",
+          "K=*", "K=a:~", "K=(Image)", "K=Image; export $L", "K=Image; export 'K=a b'", "K=Image; K+=(a)", "K=$L", "K=Image\nexport K=$J", "K=a; L='a K=b'; export J=$L", "K=a\n" + "K=$K$K\n" * 30 + "echo")],
+    *[(f"a variable of {before!r}", "qemu", f"{before}\n{HAND} -initrd $K", 3, f'l: line {before.count(chr(10)) + 2}: "$K": a shell would expand it')
+      for before in ("K='a*'", "K='[a]'", "IFS=a; K=bac", "K='a?'", "K='a\\b'")],
+    ("an array between no quotes", "qemu", "A=(a b)\n" + HAND + " ${A[@]}", 3, 'l: line 2: "${A[@]}": a shell would expand it'),
+    ("an array of what is not known", "qemu", "A=(a *)\n" + HAND + ' "${A[@]}"', 3, 'l: line 2: "${A[@]}\\"": a shell would expand it'),
+    ("an array without an end", "qemu", "A=(a b\n" + HAND, 3, 'l: line 1: "A=(" has no end, expected one'),
+    ("commands in an array", "qemu", "A=(a; b)\n" + HAND, 3, 'l: line 1: ";" in an array, expected its words alone'),
+    ("a block", "qemu", "if command -v qemu-system-aarch64; then\n" + HAND + "\nfi", 3, "l: line 2: the command line is in a block"),
+    ("an end", "qemu", "exit 1\n" + HAND, 3, 'l: line 1: "exit 1" is before the program'),
+    ("a number that a command prints", "qemu", HAND.replace(" -kernel", " -smp $(nproc) \\\n -kernel"), 3, 'l: line 1: "$(nproc) \\\\": a command '
+     "substitution, and no shell is run; give -smp a number"),
+    ("arithmetic", "qemu", HAND.replace("256M", "$((256 * 2))M"), 3, 'l: line 1: "$((256 * 2))M -kerne": arithmetic, and no shell is run; '
+     "give -m a number"),
+    ("a variable with an operator", "qemu", HAND + " -append ${A:-b}", 3, 'l: line 1: "${A:-b}": a shell would expand it'),
+    ("a command in a command", "qemu", HAND + " -initrd `ls`", 3, 'l: line 1: "`ls`": a command substitution, and no shell is run; give -initrd its'),
     ("a pattern", "qemu", HAND + " -initrd initrd*", 3, 'l: line 1: "*": a shell would expand it'),
     ("a home", "qemu", HAND + " -initrd ~/initrd", 3, 'l: line 1: "~/initrd": a shell would expand it'),
-    ("the path of a command in it", "qemu", HAND + " -initrd <(ls)", 3, 'l: line 1: "<(ls)": a shell would expand it'),
+    ("the path of a command in it", "qemu", HAND + " -initrd <(ls)", 3, 'l: line 1: "<(ls)": a process substitution'),
     ("a unit of systemd's", "qemu", f"[Service]\nExecStart=/usr/bin/{HAND}", 3, "l: it has no command line of QEMU's, expected one"),
     ("a realm of no name", "qemu", HAND + " -object rme-guest,measurement-algorithm=sha256", 2, "it has no id, expected one"),
     ("a brace", "qemu", HAND + " -device {a,b}", 3, 'l: line 1: "{a,b}": a shell would expand it'),
@@ -371,16 +387,17 @@ LINE_STOPS = [
           ("alias qemu-system-aarch64='ssh arm1 qemu'", "alias qemu-system-aarch64=ssh arm1 qemu"), (". ./env.sh", ". ./env.sh"),
           ("(cd other", "("), ("run() {", "run"), ("set -k", "set -k"), ("export A=b; chroot other", "chroot other"),
           ("2026-11-02 cd", "2026-11-02 cd"))],
-    *[(f"before the command: {before}", "qemu", f"{before}\n{HAND}", 3, f'l: line 1: "{shown}": a shell would expand it')
-      for before, shown in (
-          ('A="$(pwd)"', "$(pwd)\\\""), ("A=$(pwd)", "$(pwd)"), ("echo `pwd`", "`pwd`"), ("A=$[1+1]", "$[1+1]"), ("A=${B:-c}", "${B:-c}"))],
+    *[(f"before the command: {before}", "qemu", f"{before}\n{HAND}", 3, f'l: line 1: "{shown}": {what}, and no shell is run, expected its value')
+      for before, shown, what in (
+          ('A="$(pwd)"', "$(pwd)\\\"", "a command substitution"), ("A=$(pwd)", "$(pwd)", "a command substitution"),
+          ("echo `pwd`", "`pwd`", "a command substitution"), ("A=$[1+1]", "$[1+1]", "arithmetic"), ("A=${B:-c}", "${B:-c}", "a shell would expand it"))],
     *[(f"before the program: {before}", "qemu", f"{before} {HAND}", 3, f'l: line 1: "{shown}" is before the program, and its effect is not known')
       for before, shown in (
           ("env -C /", "-C"), ("env -Cother", "-Cother"), ("env -iC other", "-iC"), ("env --chd=other", "--chd=other"), ("env -S '-C /'", "-S"),
           ("sudo -Dother", "-Dother"), ("sudo -nD other", "-nD"), ("sudo -i", "-i"), ("sudo --login", "--login"), ("docker run a", "docker"),
           ("sudo docker run a", "docker"), ("sudo chroot other", "chroot"), ("timeout 60 ssh arm1", "ssh"), ("nohup systemd-nspawn", "systemd-nspawn"),
           ("A=b sudo nsenter -a", "nsenter"), ("doas vi", "vi"), ("nohup A=b", "A=b"), ("{", "{"), ("taskset -c", "-M"))],
-    ("an arithmetic expansion", "qemu", HAND + ' -append "a=$[1+1]"', 3, 'l: line 1: "$[1+1]\\"": a shell would expand it'),
+    ("an arithmetic expansion", "qemu", HAND + ' -append "a=$[1+1]"', 3, 'l: line 1: "$[1+1]\\"": arithmetic, and'),
     ("a parenthesis", "qemu", HAND + " -append +(a)", 3, 'l: line 1: "(a)": a shell would expand it'),
     ("very many commands", "qemu", "$(" * (1 << 19), 3, "l: it has no command line of QEMU's, expected one"),
     ("a text that is long", "qemu", "#" * (1 << 20 | 1), 3, "l: it has more than 1048576 bytes"),
