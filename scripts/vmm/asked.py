@@ -155,7 +155,7 @@ def paths(vmm: Hypervisor, what: Asked) -> dict[str, list[tuple[str, str]]]:
 def warnings(vmm: Hypervisor, what: Asked, machines: list[Word]) -> list[str]:
     """What is done otherwise than the words say, or might be meant otherwise."""
     seeds = vmm.FACTS.no_seeds
-    found = []
+    found = list(what.others.warnings)
     if "firmware" in what.said:
         found.append("firmware is started: the measurement covers it, the devicetree, RAM and processors. Kernel, initrd and command line are "
                      "of the extensible measurements, which are not computed here" + ("; those of the words are handed to the firmware, and no "

@@ -12,7 +12,7 @@ from .hypervisor import Approximate, Facts
 from .layout import MEMORY, Places, Row, Way
 from .rows import SHARED, WIDTH_APART, WIDTH_MORE, dtb_pages_row, hash_row, kernel_pages_row, order_row, ram_ways
 from .sorting import Sorted
-from .words import Option, memories, number, processors, size
+from .words import Option, memories, number, parted, processors, size
 
 NAME = "cloud-hypervisor"
 TITLE = "cloud-hypervisor"
@@ -80,9 +80,9 @@ read_cpu = read_machine
 
 def read_smp(said: dict) -> list[Processors]:
     """The processors that a realm is made with. Those of max= may come later to other guests, and a realm gets none later."""
-    found = processors("--cpus", said.get("smp", ["1"]), "boot", lambda key: key in ("max", "topology"))
+    found = processors("--cpus", said.get("smp", ["1"]), "boot", lambda key: key in ("max", "topology", "affinity", "max_phys_bits", "nested"))
     for each in found:
-        for word in each.words.split(",")[1:]:
+        for word in parted(each.words)[1:]:
             if word.startswith("max="):
                 number("--cpus: max", word.removeprefix("max="), each.count, 512)
     return found
@@ -95,7 +95,7 @@ def read_memory(said: dict) -> list[Memory]:
             raise WrongWords(f"--memory: {shown(text)}, expected whole pages of 4096 bytes")
         return count, None
 
-    harmless = ("shared", "hugepages", "hugepage_size", "mergeable", "prefault", "thp")
+    harmless = ("shared", "hugepages", "hugepage_size", "mergeable", "prefault", "thp", "reserve", "hotplug_method", "hotplug_size")
     return memories("--memory", said.get("memory", ["512M"]), read, lambda key: key in harmless)
 
 

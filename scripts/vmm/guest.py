@@ -76,6 +76,7 @@ class Guest:
     ways: Mapping[str, str] = field(default_factory=dict)
     most_bits: int = 48
     handed: str = ""        # the path of a kernel that firmware is given
+    firmware_address: str = ""      # where it is loaded, if the words say so
 
     @property
     def firmware(self) -> Blob | None:

@@ -18,7 +18,7 @@ from .words import Option, memories, processors, required, size
 NAME = "kvmtool"
 TITLE = "kvmtool (lkvm run)"
 USAGE = "-- lkvm run WORDS.."
-PROGRAM = r"lkvm(-static)?|kvmtool"
+PROGRAM = r"lkvm(-static)?|kvmtool|vm run"
 BASE = 0x8000_0000
 DTB_ALIGN = 2 * MIB
 SOURCE = "kvmtool's sources"
@@ -30,6 +30,8 @@ OPTIONS = [
            "address where RAM begins. Required: lkvm's default depends on the host", True),
     Option(("-k", "--kernel", "--each-kernel"), "kernel", "[NAME=]FILE", "an arm64 Image. Required, but with --firmware", True),
     Option(("-f", "--firmware"), "firmware", "FILE", "firmware, in the place of a kernel and an initrd"),
+    Option(("--firmware-address",), "firmware_address", "ADDRESS", "where the firmware is loaded, in hexadecimal digits after 0x; else the start "
+           "of RAM"),
     Option(("-i", "--initrd", "--each-initrd"), "initrd", "[NAME=]FILE", "an initrd", True),
     Option(("-p", "--params", "--append", "--each-append"), "append", "TEXT", "a command line of the kernel", True),
     Option(("--lkvm",), "program", "PROGRAM", "lkvm itself, which makes the devicetrees: each by the final words with --dump-dtb, twice. "
@@ -82,12 +84,16 @@ def row_of(name: str) -> Row:
     return next(row for row in TABLE if row.name == name)
 
 
+def firmware(guest: Guest, places: Places) -> int:
+    return int(guest.firmware_address, 16) if guest.firmware_address else base(guest)
+
+
 FIRMWARE = [
     row_of("ram"),
-    Row("firmware", "the start of RAM", lambda guest, places: base(guest), SOURCE, MEMORY),
-    Row("dtb", "the firmware's end, rounded up to 2 MiB", lambda guest, places: up(base(guest) + guest.loaded.length, DTB_ALIGN), SOURCE, MEMORY),
+    Row("firmware", "the start of RAM, or the address of --firmware-address", firmware, SOURCE, MEMORY),
+    Row("dtb", "the firmware's end, rounded up to 2 MiB", lambda guest, places: up(places.firmware + guest.loaded.length, DTB_ALIGN), SOURCE, MEMORY),
     row_of("dtb length"),
-    Row("pc", "the firmware's address", lambda guest, places: base(guest), SOURCE, MEMORY),
+    Row("pc", "the firmware's address", lambda guest, places: places.firmware, SOURCE, MEMORY),
     *(row_of(name) for name in ("x", "recs", "order", "s2sz", "dtb_pages", "hash")),
     *SHARED,
 ]
@@ -105,6 +111,15 @@ def read_smp(said: dict) -> list[Processors]:
     return processors("--cpus", texts, "cpus", lambda key: False)
 
 
+def check_address(said: dict):
+    """The address of firmware has to be one, and of firmware."""
+    text = said.get("firmware_address")
+    if text is not None and not re.fullmatch(r"0x[0-9a-fA-F]{1,12}", text):
+        raise WrongWords(f"--firmware-address: {shown(text)}, expected 0xADDRESS")
+    if text is not None and "firmware" not in said:
+        raise WrongWords(f"--firmware-address: {shown(text)}, and no firmware is given, expected --firmware too")
+
+
 def read_memory(said: dict) -> list[Memory]:
     def read(text):
         length, at, start = text.partition("@")
@@ -115,6 +130,7 @@ def read_memory(said: dict) -> list[Memory]:
             raise WrongWords(f"--mem: {shown(text)}, expected SIZE@0xADDRESS")
         return count, int(start, 16) if at else None
 
+    check_address(said)
     return memories("--mem", required(said, "memory", "--mem", "sizes of RAM: lkvm's default depends on the host"), read, lambda key: False)
 
 
@@ -152,6 +168,7 @@ def final_words(guest: Guest) -> list[str]:
 
 def load_words(guest: Guest, path: Callable[[Blob], str]) -> list[str]:
     words = ["--firmware" if guest.firmware else "--kernel", path(guest.loaded)]
+    words += ["--firmware-address", guest.firmware_address] if guest.firmware_address else []
     if guest.initrd:
         words += ["--initrd", path(guest.initrd)]
     return words + (["--params", guest.append.text] if guest.append.text else [])

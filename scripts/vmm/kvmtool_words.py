@@ -48,7 +48,20 @@ def read_vector_length(found: Sorted, given: Given):
     if not re.fullmatch("[0-9]{1,4}", given.value) or int(given.value) % 128 or int(given.value) > 2048:
         found.refuse(given, "expected a multiple of 128 up to 2048")
     elif int(given.value):
-        found.features = {str(given): {"sve": (True,), "sve_vl": (int(given.value) // 128 - 1,)}}
+        found.features[str(given)] = {"sve": (True,), "sve_vl": (int(given.value) // 128 - 1,)}
+    found.keep(given)
+
+
+def read_no_vectors(found: Sorted, given: Given):
+    found.features[str(given)] = {"sve": (False,)}
+    found.keep(given)
+
+
+def read_counters(found: Sorted, given: Given):
+    if not re.fullmatch("[0-9]{1,2}", given.value) or int(given.value) > 31:
+        found.refuse(given, "expected a number from 0 to 31")
+    else:
+        found.features[str(given)] = {"pmu": (True,), "pmu_num_ctrs": (int(given.value),)}
     found.keep(given)
 
 
@@ -64,18 +77,29 @@ WORDS = [
     Entry(spelled("--restricted_mem --pmu --force-pci --virtio-legacy --no-pvtime --nodefaults --no-dhcp"), Effect.TREE,
           "nodes of the devicetree, or words of its command line", takes=ALONE),
     Entry(spelled("--sve-vl"), Effect.TREE, "the vector length, which the host's file says too", read=read_vector_length),
+    Entry(spelled("--disable-sve"), Effect.TREE, "no vectors, which the host's file says too", takes=ALONE, read=read_no_vectors),
+    Entry(spelled("--pmu-counters"), Effect.TREE, "the event counters, which the host's file says too", read=read_counters),
+    Entry(spelled("--disable-mte"), Effect.HARMLESS, "memory tagging, which no realm has", takes=ALONE),
     Entry(spelled("--irqchip --virtio-transport --console"), Effect.TREE, "nodes of the devicetree, or words of its command line"),
     Entry(spelled("-d --disk -n --network --9p --vsock --tty --vfio-pci"), Effect.TREE, "a device, which has a node", read=read_opens),
     Entry(spelled("--rng --balloon"), Effect.TREE, "a device, which has a node", takes=ALONE, read=read_opens),
     Entry(spelled("--name --loglevel --hugetlbfs --dev --vcpu-affinity"), Effect.HARMLESS, "how lkvm itself runs"),
     Entry(spelled("--debug --debug-single-step --debug-ioport --debug-mmio"), Effect.HARMLESS, "how lkvm itself runs", takes=ALONE),
     Entry(spelled("-f --firmware"), Effect.LAYOUT, "the firmware, which is loaded in the kernel's place; of several the last counts", key="firmware"),
+    Entry(spelled("--firmware-address"), Effect.LAYOUT, "where the firmware is loaded; of several the last counts", key="firmware_address"),
     Entry(spelled("--flash"), Effect.REFUSED, "a flash for variables: whether a realm has one is not known", "expected firmware that keeps none"),
     Entry(spelled("--dump-dtb"), Effect.REFUSED, "rim-manifest adds it itself", "expected --lkvm PROGRAM, or --dtb with what it wrote"),
     Entry(spelled("--kaslr-seed"), Effect.REFUSED, "the devicetree has a seed then", "expected no such word"),
     Entry(spelled("--aarch32 --nested"), Effect.REFUSED, "no realm has such processors", "expected no such word", ALONE),
 ]
-GRAMMAR = Grammar("lkvm", WORDS, two_dashes)
+
+
+def spelled_by_lkvm(word: str) -> tuple[str, str | None]:
+    """Words as lkvm has them: a short one may have its value right after it."""
+    return (word[:2], word[2:]) if re.fullmatch("-[a-z].+", word, re.S) else two_dashes(word)
+
+
+GRAMMAR = Grammar("lkvm", WORDS, spelled_by_lkvm)
 
 
 def whole(found: Sorted) -> Sorted:
@@ -88,7 +112,13 @@ def whole(found: Sorted) -> Sorted:
 def sort(words: list[str]) -> Sorted:
     if words[:1] != ["run"]:
         raise WrongWords(f"{shown(words[0]) if words else 'nothing'}: it comes after lkvm, expected run and its words")
-    return whole(GRAMMAR.sort(words[1:], True))
+    found = GRAMMAR.sort(words[1:], True)
+    alone = [given for given in found.unknown if not given.name.startswith("-")]
+    if len(alone) == 1 and not {"kernel", "firmware"} & set(found.said):
+        found.said["kernel"] = [alone[0].name]
+        found.unknown.remove(alone[0])
+        found.effects.append((str(alone[0]), Effect.LAYOUT, "the kernel, as the one word that is of no option"))
+    return whole(found)
 
 
 def sort_rest(words: list[str]) -> Sorted:

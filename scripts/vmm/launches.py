@@ -46,12 +46,12 @@ class Launch:
         return self.realm
 
 
-def combinations(lists: dict, ways: dict[str, str], most_bits: int, handed: str) -> list[Guest]:
+def combinations(lists: dict, ways: dict[str, str], most_bits: int, handed: str, firmware_address: str) -> list[Guest]:
     """A guest for each combination. Those that share a devicetree are neighbours."""
     count = math.prod(len(values) for values in lists.values())
     if count > MOST_COMBINATIONS:
         raise Fault(f"the words have {count} combinations, expected at most {MOST_COMBINATIONS}")
-    return [Guest(machine, cpu, memory, smp, kernel, initrd, append, algo, ways, most_bits, handed)
+    return [Guest(machine, cpu, memory, smp, kernel, initrd, append, algo, ways, most_bits, handed, firmware_address)
             for machine in lists["machine"] for cpu in lists["cpu"] for memory in lists["memory"] for smp in lists["smp"]
             for append in lists["append"] for initrd in lists["initrd"] for kernel in lists["kernel"] for algo in lists["algo"]]
 

@@ -5,12 +5,13 @@ may have variables, and arrays of bash, that lines of their own before it set to
 anything else in it. A command before it, or a prefix of its program such as `sudo -E`, is skipped only if it is known to change neither the
 folder nor the host. All else is refused: a list of what does would never be complete.
 
-`shlex` is not used. It does not join continued lines, begins comments within words, and does not tell which `$` is in single quotes.
+`shlex` is not used for shells. It does not join continued lines, begins comments within words, and does not tell which `$` is in single quotes.
 """
 from __future__ import annotations
 
 import os
 import re
+import shlex
 from collections.abc import Iterator, Mapping
 from dataclasses import dataclass, field
 
@@ -42,6 +43,11 @@ ELEMENTS = re.compile(rf'"\$\{{({NAME})\[@\]\}}"')
 ARRAY = re.compile(rf"({NAME})(\+?)=")
 # The separators after a command that a shell runs by itself, and not in another process.
 SEQUENCE = re.compile(r"[\n;]*|(?:&&|\|\|)\n*")
+# A section of a unit of systemd with its keys, but for [Service], of which these keys do not change what ExecStart= starts, or where.
+UNIT_SECTION = re.compile(r"^\[(?:Unit|Install)\]\n(?:[^\[\n].*\n|\n)*|^\[Service\]\n?", re.M)
+UNIT_KEYS = re.compile(r"Type|ExecStart|ExecStop|ExecStopPost|ExecReload|Restart\w*|User|Group|Environment|EnvironmentFile|Limit\w+|Kill\w+|Timeout\w+|"
+                       r"Standard\w+|Syslog\w+|Nice|CPU\w+|Memory\w+|Tasks\w+|IO\w+|OOM\w+|Slice|Delegate|WorkingDirectory|RemainAfterExit|PIDFile|"
+                       r"SuccessExitStatus|WatchdogSec|NotifyAccess")
 # What a shell does for an expansion that begins so.
 EXPANSIONS = {"$((": "arithmetic", "$[": "arithmetic", "$(": "a command substitution", "`": "a command substitution", "<(": "a process substitution",
               ">(": "a process substitution"}
@@ -79,6 +85,9 @@ PREFIXES = {
     "chrt": Prefix("-[fribo]|--(fifo|rr|batch|idle|other)", operands=1),
     "taskset": Prefix("-a|-c|-ac|--all-tasks|--cpu-list", operands=1),
     "numactl": Prefix("-l|--localalloc|--(cpunodebind|physcpubind|membind|interleave|preferred)=.*", "-[NCmip]"),
+    "gdb": Prefix("--args|-q|--quiet|-batch|-nx"),
+    "strace": Prefix("-f|-ff|-t|-tt|-T|-v|-q|-y|--[a-z-]+=.*", "-o|-e|-s"),
+    "prlimit": Prefix("--[a-z]+=.*|-[clmnstuv].+"),
     "stdbuf": Prefix("-[ioe](L|[0-9]+[KMG]?)|--(input|output|error)=.*", "-[ioe]"),
 }
 
@@ -107,7 +116,7 @@ class Command:
         """Adds a word at a position of a text."""
         self.at = at if not self.words else self.at
         self.raw.append((at, word))
-        if PLAIN.fullmatch(word):
+        if PLAIN.fullmatch(word) or word == "$":
             self.words.append(word)
             return
         self.words.append(unquoted(word))
@@ -347,7 +356,13 @@ def resolved(commands: list[Command]) -> list[Command]:
 
 def has_program(words: list[str], program: re.Pattern) -> bool:
     """Checks whether a program is among some words, by its name. A variable with its path does not count."""
-    return any(program.fullmatch(os.path.basename(word)) and not ASSIGNS.fullmatch(word) for word in words)
+    return any(is_program(words, at, program) and not ASSIGNS.fullmatch(word) for at, word in enumerate(words))
+
+
+def is_program(words: list[str], at: int, program: re.Pattern) -> bool:
+    """Checks whether a word is a program, by its name, or by that and the next word."""
+    name = os.path.basename(words[at])
+    return bool(program.fullmatch(name) or program.fullmatch(" ".join([name, *words[at + 1:at + 2]])))
 
 
 def after_options(prefix: Prefix, words: list[str], at: int) -> int:
@@ -364,14 +379,14 @@ def after_options(prefix: Prefix, words: list[str], at: int) -> int:
 
 def program_at(words: list[str], program: re.Pattern) -> int:
     """Returns the index of the program, which only variables and known prefixes may precede."""
-    at, assigns = 0, True
+    at, assigns = int(words[0] == "$"), True
     while at < len(words):
         name = os.path.basename(words[at])
         if assigns and ASSIGNS.fullmatch(words[at]):
             at += 1
         elif name in PREFIXES:
             at, assigns = after_options(PREFIXES[name], words, at + 1), PREFIXES[name].assigns
-        elif program.fullmatch(name):
+        elif is_program(words, at, program):
             return at
         else:
             break
@@ -398,13 +413,41 @@ def of_words(words: list[str], program: str, title: str) -> tuple[str, list[str]
     return words[at], words[at + 1:]
 
 
-def commands_of(path: str) -> tuple[Text, list[Command]]:
-    """Returns the commands of a file."""
+def text_of(path: str) -> Text:
     what = "a command line, or a shell's script with one"
     text = Text(path, files.text_of(path, files.read(path, MOST, what), what))
     for letter, name in (("\r", "a carriage return, expected lines that end with a line feed alone"), ("\0", "a zero byte, expected a text")):
         if letter in text.text:
             raise text.fault(text.text.index(letter), name)
+    return text
+
+
+def of_unit(text: Text, program: re.Pattern, has_folder: bool) -> list[str]:
+    """Returns the words after the program of the one ExecStart= of a unit of systemd. Its quotes are like a shell's, and what it expands is
+    refused."""
+    service = UNIT_SECTION.sub("", re.sub(r"^[#;].*\n", "", text.text, flags=re.M).replace("\\\n", " "))
+    pairs = [(key.strip(), value.strip()) for key, equals, value in (line.partition("=") for line in service.split("\n")) if key.strip()]
+    if unknown := next((key for key, _ in pairs if not UNIT_KEYS.fullmatch(key)), None):
+        raise text.fault(text.text.index(unknown), f"{shown(unknown)} of a unit: its effect is not known, expected a unit without it")
+    starts = [value for key, value in pairs if key == "ExecStart"]
+    at = max(text.text.find("ExecStart"), 0)
+    if len(starts) != 1:
+        raise text.fault(at, f"it is a unit with {len(starts)} ExecStart=, expected one")
+    if found := re.search(r"[%$\\]|(?:^|\s);(?:\s|$)|^[@|]", starts[0]):
+        raise text.fault(at, f"{shown(found[0].strip())} in ExecStart=, which systemd expands, expected its value")
+    if not has_folder:
+        raise text.fault(at, "paths of a unit are of its WorkingDirectory= or of /, expected -C DIR, which says of which")
+    try:
+        words = shlex.split(starts[0].lstrip("-:+!"))
+    except ValueError:
+        raise text.fault(at, "a quote in ExecStart= has no end, expected one") from None
+    if not words or not has_program(words, program):
+        raise text.fault(at, "ExecStart= starts another program, expected a hypervisor's command line")
+    return words[program_at(words, program) + 1:]
+
+
+def commands_of(text: Text) -> list[Command]:
+    """Returns the commands of a text."""
     commands = read(text)
     at = next((number for number, each in enumerate(commands) if each.words[0].startswith("-")), None)
     if at is not None:
@@ -414,7 +457,7 @@ def commands_of(path: str) -> tuple[Text, list[Command]]:
         why = ("a backslash at the end of the line before it" if cut.comment is None else
                f"no comment in line {text.line(cut.comment)}, where it ends the command, with a backslash after it too")
         raise text.fault(cut.at, f"a command begins with {shown(cut.words[0])}, expected {why}")
-    return text, commands
+    return commands
 
 
 def check_before(text: Text, command: Command, has_folder: bool, program: re.Pattern):
@@ -431,7 +474,10 @@ def check_before(text: Text, command: Command, has_folder: bool, program: re.Pat
 
 def of_file(path: str, program: str, title: str, has_folder: bool) -> list[str]:
     """Returns the words after the program of the only command line of a hypervisor in a file. `has_folder`: whether -C says where it is run."""
-    (text, commands), pattern = commands_of(path), re.compile(program)
+    text, pattern = text_of(path), re.compile(program)
+    if re.search(UNIT_SECTION, text.text):
+        return of_unit(text, pattern, has_folder)
+    commands = commands_of(text)
     found = [number for number, each in enumerate(commands) if has_program(each.words, pattern) and not is_harmless(each.bare, pattern)]
     if len(found) != 1:
         lines = " and ".join(str(text.line(commands[number].at)) for number in found[:2])

@@ -21,7 +21,7 @@ from .words import Option, memories, number, processors, required, size
 NAME = "qemu"
 TITLE = "QEMU, machine virt"
 USAGE = "-- qemu-system-aarch64 WORDS.."
-PROGRAM = r"qemu-system-aarch64(-?[0-9.]+|-static)?|qemu-kvm"
+PROGRAM = r"qemu-system-(aarch64|arm64)(-?[0-9.]+|-static)?|qemu-kvm"
 BASE = 0x4000_0000
 DTB_ALIGN = 2 * MIB
 BOOT = "hw/arm/boot.c of QEMU 7.2, 10.0 and 10.2"

@@ -16,7 +16,7 @@ from outside.texts import MOST_SHOWN, shown, visible
 
 from . import qemu_firmware
 from .sorting import Effect, Entry, Explained, Given, Grammar, Realm, Sorted, Takes, one_dash, spelled
-from .words import ALGORITHMS, personalization
+from .words import ALGORITHMS, personalization, size
 
 OFF = ("off", "no", "false", "n")
 ON = ("on", "yes", "true", "y")
@@ -43,7 +43,8 @@ class MachineWord:
 
 MACHINE = [
     MachineWord(("gic-version",), Effect.TREE, "the interrupt controller", "gic-version=3", ("3", "4", "max", "host")),
-    MachineWord(("its", "iommu", "default-bus-bypass-iommu"), Effect.TREE, "nodes of the interrupt controller and of PCIe"),
+    MachineWord(("its", "msi", "iommu", "default-bus-bypass-iommu"), Effect.TREE, "nodes of the interrupt controller and of PCIe"),
+    MachineWord(("virtio-mmio-transports",), Effect.TREE, "how many nodes virtio_mmio there are"),
     MachineWord(("highmem", "highmem-ecam", "highmem-mmio", "highmem-mmio-size", "highmem-redists", "compact-highmem"), Effect.LAYOUT,
                 "windows of devices, and with them the width of an IPA"),
     MachineWord(("phandle-start", "dt-compatible"), Effect.TREE, "numbers and names in the devicetree"),
@@ -53,7 +54,7 @@ MACHINE = [
     MachineWord(("acpi",), Effect.TREE, "with firmware: whether the devicetree has the power button"),
     MachineWord(("ras", "usb", "graphics", "mem-merge", "dump-guest-core", "suppress-vmdesc", "x-oem-id", "x-oem-table-id",
                  "boot", "boot.order", "boot.once", "boot.menu", "boot.strict", "boot.splash", "boot.splash-time", "boot.reboot-timeout",
-                 "hmat", "aux-ram-share"), Effect.HARMLESS, "nothing in the devicetree"),
+                 "hmat", "aux-ram-share", "spcr", "acpi-pcihp"), Effect.HARMLESS, "nothing in the devicetree"),
     MachineWord(("dtb-randomness", "dtb-kaslr-seed"), Effect.TREE, "the devicetree differs at each start", "{}=off", OFF),
     MachineWord(("virtualization",), Effect.TREE, "a processor with EL2: " + NO_REALM, "{}=off", OFF),
     MachineWord(("secure",), Effect.TREE, "a processor with TrustZone: " + NO_REALM, "{}=off", OFF),
@@ -199,10 +200,12 @@ HARMLESS_DEVICE = re.compile(
     r"intel-hda|ich9-intel-hda|e1000|e1000e|igb|rtl8139|vmxnet3|ne2k_pci|i82[0-9]+[a-z]*|tulip|pcnet|megasas|mptsas|lsi|am53c974|ahci|"
     r"ich9-ahci|sd-card|VGA|secondary-vga|bochs-display|ramfb|qxl|vfio-pci|qemu-xhci|nec-usb-xhci|ich9-usb|piix[34]-usb|pvpanic-pci|"
     r"ivshmem|edu|i6300esb|AC97|ES1370|pvscsi|rocker|ccid-card)([a-z0-9-]*)")
-# Drivers whose defaults change nothing in the devicetree.
-HARMLESS_GLOBAL = re.compile(r"(virtio-(?!iommu|mem|pmem)|vhost-|usb-|scsi-|nvme|vfio-pci|pcie-root-port)[a-z0-9-]*")
+# Drivers whose defaults change nothing in the devicetree; kvm-pit is of other processors.
+HARMLESS_GLOBAL = re.compile(r"(virtio-(?!iommu|mem|pmem)|vhost-|usb-|scsi-|nvme|vfio-pci|pcie-root-port)[a-z0-9-]*|kvm-pit")
 # What -object rme-guest may say; two names are one thing in versions of the proposed changes.
-REALM_KEYS = {"qom-type", "id", "measurement-algorithm", "measurement-algo", "personalization-value"}
+REALM_KEYS = {"qom-type", "id", "measurement-algorithm", "measurement-algo", "personalization-value", "measurement-log"}
+# The longest text of a personalization value: 64 bytes as hexadecimal digits.
+MOST_RPV = 128
 
 
 def properties(option: str, text: str, first: str) -> dict[str, str]:
@@ -221,6 +224,7 @@ def read_backend(found: Sorted, given: Given, said: dict[str, str]):
     if missing:
         found.refuse(given, f"it has no {missing}, expected one")
         return
+    found.backends[said["id"]] = said["size"]
     doubled = (said[key].replace(",", ",,") for key in ("id", "size"))
     found.keep(given, ["-object", "memory-backend-ram,id={},size={},reserve=off".format(*doubled)])
 
@@ -240,13 +244,21 @@ def read_realm(found: Sorted, given: Given, said: dict[str, str]):
     elif doubled:
         found.refuse(given, f"{doubled} is given twice, expected once")
     elif set(said) - REALM_KEYS:
-        found.refuse(given, f"what {', '.join(sorted(set(said) - REALM_KEYS))} changes is not known, expected measurement-algorithm and "
-                     "personalization-value")
+        found.refuse(given, f"what {', '.join(sorted(set(said) - REALM_KEYS))} changes is not known, expected measurement-algorithm, "
+                     "personalization-value and measurement-log")
     elif algorithms and algorithms[0] not in ALGORITHMS:
         found.refuse(given, f"measurement-algorithm={shown(algorithms[0])}, expected {' or '.join(ALGORITHMS)}")
-    elif value is not None and read is None:
+    elif value is not None and read is None and len(value) > MOST_RPV:
         found.refuse(given, f"personalization-value={shown(value)}, expected 64 bytes as 128 hexadecimal digits or as base64")
+    elif said.get("measurement-log", "off") not in (*OFF, *ON):
+        found.refuse(given, f"measurement-log={shown(said['measurement-log'])}, expected on or off")
     else:
+        if value is not None and read is None:
+            found.warnings.append(f"personalization-value={shown(value)} is not 64 bytes as hexadecimal digits or base64; it is not part of the "
+                                  "measurement, and manifests have none")
+        if said.get("measurement-log") in ON:
+            found.warnings.append("measurement-log=on: whether a page of the log is measured is not known, and no page is measured here")
+            found.opens.append(given)
         found.keep(given)
         found.realm = Realm(source, said.get("id"), algorithms[0] if algorithms else None, read)
 
@@ -368,12 +380,20 @@ WORDS = [
 GRAMMAR = Grammar("QEMU", WORDS, one_dash)
 
 
+def take_backend(found: Sorted, machine: list[str]):
+    """Without -m RAM is as large as the object that -machine names, and with it QEMU stops at another size."""
+    name = next((word.removeprefix("memory-backend=") for word in machine if word.startswith("memory-backend=")), None)
+    if name in found.backends and "memory" not in found.said:
+        found.said["memory"] = [f"{size('-object: size', found.backends[name], 1)}B"]
+
+
 def sort(words: list[str]) -> Sorted:
     found = GRAMMAR.sort(words, True)
     machine = parts(found.said["machine"][0]) if "machine" in found.said else []
     acpi = [word for word in machine if word.startswith("acpi=") and word.removeprefix("acpi=") not in OFF]
     if acpi and {"-no-acpi", "--no-acpi"} & set(found.kept):
         found.faults.append(f"-no-acpi and {shown(acpi[0])} of -machine: their order decides, expected one of them")
+    take_backend(found, machine)
     rest = qemu_firmware.of_line(found, machine)
     if machine:
         found.said["machine"] = [joined(rest)]

@@ -82,6 +82,8 @@ class Sorted:
     unknown: list[Given] = field(default_factory=list)
     effects: list[Explained] = field(default_factory=list)
     flash: dict[str, str] = field(default_factory=dict)             # files of flash, by their units
+    backends: dict[str, str] = field(default_factory=dict)          # sizes of RAM, by the names of their objects
+    warnings: list[str] = field(default_factory=list)
     nodes: dict[str, dict[str, str]] = field(default_factory=dict)  # nodes of disks, by their names
 
     def keep(self, given: Given, instead: Iterable[str] | None = None):

@@ -143,16 +143,28 @@ def size_label(count: int) -> str:
     return f"{count}B"
 
 
-def with_words(name: str, texts: list[str], key: str) -> list[tuple[str, str]]:
+def parted(text: str) -> list[str]:
+    """The parts of a text between commas, but for those in brackets."""
+    found, depth = [""], 0
+    for letter in text:
+        depth += (letter == "[") - (letter == "]")
+        if letter == "," and depth <= 0:
+            found.append("")
+        else:
+            found[-1] += letter
+    return found
+
+
+def with_words(name: str, texts: list[str], key: str) -> list[tuple[str, list[str]]]:
     """The values of a list, each with the words `KEY=VALUE` that were said beside it. A value is said alone, or as `key=VALUE`."""
     found = []
     for text in texts:
-        parts = text.split(",")
+        parts = parted(text)
         values = [part.removeprefix(key + "=") for part in parts if "=" not in part or part.startswith(key + "=")]
         beside = [part for part in parts if "=" in part and not part.startswith(key + "=")]
         if not values:
             raise WrongWords(f"{name}: {shown(text)} has no value, expected one alone or as {key}=")
-        found += [(value, ",".join(beside)) for value in values]
+        found += [(value, beside) for value in values]
     return found
 
 
@@ -161,13 +173,13 @@ def processors(name: str, texts: list[str], key: str, allows: Callable[[str], bo
     for value, beside in with_words(name, texts, key):
         refuse_beside(name, beside, allows)
         count = number(name, value, 1, 512)
-        found.append(Processors(count, ",".join(filter(None, [str(count), beside])), f"smp{count}"))
+        found.append(Processors(count, ",".join([str(count), *beside]), f"smp{count}"))
     return found
 
 
-def refuse_beside(name: str, beside: str, allows: Callable[[str], bool]):
+def refuse_beside(name: str, beside: list[str], allows: Callable[[str], bool]):
     """Words beside a value of which the effect is not known are refused."""
-    for part in filter(None, beside.split(",")):
+    for part in beside:
         if not allows(part.split("=")[0]):
             raise WrongWords(f"{name}: {shown(part)}: what it changes is not known, expected values alone")
 
@@ -181,7 +193,7 @@ def memories(name: str, texts: list[str], read: Callable[[str], tuple[int, int |
         if not length:
             raise WrongWords(f"{name}: {shown(value)}, expected more than nothing")
         label = size_label(length) + (f"at{base:x}" if base is not None else "")
-        found.append(Memory(length, ",".join(filter(None, [value, beside])), label, base))
+        found.append(Memory(length, ",".join([value, *beside]), label, base))
     return found
 
 

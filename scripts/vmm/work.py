@@ -162,8 +162,8 @@ class Work:
             raise WrongWords(f"--approximate-cpu: no devicetree is made here, expected {option_names(self.vmm, 'program')} too")
         if "program" in self.said and self.what.others.opens:
             opens = sorting.listed([shown(str(each)) for each in self.what.others.opens])
-            raise WrongWords(f"{opens}: in the devicetree, and making one would open what a guest has open, expected --dtb with the "
-                             "devicetree")
+            raise WrongWords(f"{opens}: in the devicetree, and making one here would open what a guest has open or be another one, expected --dtb "
+                             "with the devicetree")
 
     def find_programs(self):
         """Finds `rim`, and looks at the version of the hypervisor's program, which has to be the one that is deployed."""
@@ -186,7 +186,8 @@ class Work:
             if self.is_settled and not self.chosen["s2sz"].name.isdigit():
                 self.host.require(key, why)
         most = int(self.host["s2sz_max"] or 48)
-        guests = launches.combinations(self.lists, {name: each.name for name, each in self.chosen.items()}, most, self.handed())
+        guests = launches.combinations(self.lists, {name: each.name for name, each in self.chosen.items()}, most, self.handed(),
+                                       self.said.get("firmware_address", ""))
         found = launches.named(guests, self.lists, self.table, "short_names" in self.said)
         for launch in found:
             set_width(launch, self.chosen["s2sz"], most, f"s2sz_max of {self.host.name}")

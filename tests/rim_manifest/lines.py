@@ -75,7 +75,24 @@ BEFORE = ["#!/bin/sh\n# a ( comment \\\n", "set -eu -o pipefail; export A B=c\ne
           "numactl -C 0-3 --membind=0 -l stdbuf -oL -e 0 ", "/usr/bin/env nice -10 /usr/bin/sudo ",
           "2026-11-02 09:14:07.512+0000: starting up; can't (\n", "\t>log 2>&1 \\\n ", "command -v qemu-system-aarch64 >/dev/null || exit 1\n",
           "which qemu-system-aarch64 || { echo none; exit 1; }\nqemu-system-aarch64 --version\n", "echo qemu-system-aarch64 -M virt\n",
-          "if ! command -v qemu-system-aarch64 >/dev/null 2>&1; then\n  echo none\n  exit 1\nfi\n", "[ -e Image ] && [ -r * ]\n"]
+          "if ! command -v qemu-system-aarch64 >/dev/null 2>&1; then\n  echo none\n  exit 1\nfi\n", "[ -e Image ] && [ -r * ]\n", "$ ", "gdb -q --args ", "$ strace -f -o log -e trace=openat prlimit --memlock=unlimited --nofile=1024 "]
+# A unit of systemd, and the words after the program.
+UNIT = """[Unit]
+Description=a realm (of %i; "odd)
+After=network.target
+
+[Service]
+# ExecStart=other
+Type=simple
+ExecStart=-/usr/bin/qemu-system-aarch64 -M virt \\
+    -append "console=ttyAMA0 a" -name 'a;b' -fw_cfg name=opt/~,string={a}*
+Restart=always
+WorkingDirectory=/srv
+
+[Install]
+WantedBy=multi-user.target
+"""
+OF_UNIT = ["-M", "virt", "-append", "console=ttyAMA0 a", "-name", "a;b", "-fw_cfg", "name=opt/~,string={a}*"]
 # Scripts that set what they use, each with the words after the program.
 SCRIPTS = [
     ("K=Image\nD=/a\nQ=qemu-system-aarch64\nexport M\n$Q -kernel $D/$K -initrd \"${D}/b c\" -append 'a $K'", ["-kernel", "/a/Image", "-initrd", "/a/b c", "-append", "a $K"]),
@@ -95,6 +112,8 @@ def known(_program: str):
     for script, expected in SCRIPTS:
         with Folder({"l": script.encode()}) as folder:
             wrong += differs(script, of_file(os.path.join(folder.path, "l"), "qemu-system-aarch64", "QEMU", False), expected)
+    with Folder({"l": UNIT.encode()}) as folder:
+        wrong += differs("a unit", of_file(os.path.join(folder.path, "l"), "qemu-system-aarch64", "QEMU", True), OF_UNIT)
     with Folder({"l": f"cd other\n{HAND}".encode()}) as folder:
         wrong += differs("cd with -C", of_file(os.path.join(folder.path, "l"), "qemu-system-aarch64", "QEMU", True), HAND.split()[1:])
     return wrong

@@ -141,6 +141,29 @@ OPTIONS = [
      [[[0x8000_0000, 0x9000_0000]], [{"pc": "0x80000000", "x": ["0x80200000"]}]]) + differs("items", {
          item["name"]: item["at"] for item in first(folder)["item"]}, {"firmware": 0x8000_0000, "dtb": 0x8020_0000}),
      {"fw": FIRMWARE, "tree": tree([(2 * LOW, 2 * LOW + 256 * MIB)], length=None, **NO_PCIE)}, "firmware is started"),
+    ("an address of firmware", [*without(KVMTOOL, "-k"), "-f", "fw", "--firmware-address", "0x80400000"], lambda folder: differs("rec", first(folder)["rec"],
+     [{"pc": "0x80400000", "x": ["0x80600000"]}]) + differs("items", {item["name"]: item["at"] for item in first(folder)["item"]},
+     {"firmware": 0x8040_0000, "dtb": 0x8060_0000}) + differs("words", recorded(folder)["words"], ["run", "--cpus", "1", "--mem", "256"]),
+     {"fw": FIRMWARE, "tree": tree([(2 * LOW, 2 * LOW + 256 * MIB)], length=None, **NO_PCIE)}, "firmware is started"),
+    *[(f"lkvm: {text}", ["kvmtool", "--line", "l", *LINE_OF], lambda folder, name=name: differs("name", names_of(folder), [name]), {"l": text.encode(),
+       "host.toml": host(**about), "tree": tree([(2 * LOW, 2 * LOW + 256 * MIB)], length=None, count=2, **NO_PCIE)}) for text, name, about in (
+        ("lkvm run -c2 -m256 Image", "256M-smp2-Image-no-initrd-sha256", {}), ("vm run Image --cpus=2 -m 256", "256M-smp2-Image-no-initrd-sha256", {}),
+        ("vm run --disable-sve --disable-mte --pmu --pmu-counters 6 -c 2 -kImage -m 256", "256M-smp2-Image-no-initrd-sha256", {}))],
+    ("a size of an object of RAM", ["qemu", "--line", "l", *LINE_OF], lambda folder: differs("ram", first(folder)["ram"], [[LOW, LOW + 256 * MIB]])
+     + differs("words", recorded(folder)["words"][-1], f"{256 * MIB}B"), {"l": HAND.replace("-m 256M", "-M memory-backend=r,dtb-randomness=off -object "
+     "memory-backend-memfd,id=r,size=256M,share=on").encode()}),
+    ("a program of another name", ["qemu", "--line", "l", *LINE_OF], lambda folder: [], {"l": HAND.replace("aarch64", "arm64").encode()}, "no dtb-randomness"),
+    ("words of newer versions", [*replaced(QEMU, "-M", "virt,gic-version=3,msi=its,virtio-mmio-transports=4,spcr=off"), "--qemu", "./stand-in", "--", "-global",
+     "kvm-pit.lost_tick_policy=discard"], lambda folder: differs("words", "virt,gic-version=3,msi=its,virtio-mmio-transports=4,spcr=off," in
+     folder.read("said").decode(), True) + differs("rest", recorded(folder)["rest"], []), TREES),
+    *[(f"a realm's object: {text}", [*replaced(WITH_TREE, "-M", "virt,confidential-guest-support=a"), "--", "-object", f"rme-guest,id=a,{text}"],
+       lambda folder: differs("rpv", first(folder).get("rpv"), None), {}, warns) for text, warns in (
+        ("measurement-log=off", ""), ("measurement-log=on", "warning: measurement-log=on: whether a page of the log is measured is not known"),
+        ("personalization-value=abcd", 'warning: personalization-value="abcd" is not 64 bytes as hexadecimal digits or base64; it is not part'))],
+    ("words of cloud-hypervisor", ["cloud-hypervisor", "--line", "l", *LINE_OF], lambda folder: differs("rec", len(first(folder)["rec"]), 2),
+     {"l": b"cloud-hypervisor --cpus boot=2,affinity=[0@[0,2],1@[1,3]],max_phys_bits=40,nested=off --memory size=256M,hotplug_method=acpi,"
+      b"hotplug_size=1G,reserve=on --kernel Image --debug-console off --tpm socket=/a --no-shutdown".replace(b"[0@[0,2],1@[1,3]]", b"'[0@[0,2],1@[1,3]]'"),
+      "tree": tree([(LOW, LOW + 256 * MIB)], length=None, count=2)}),
     ("pages of a kernel with little BSS", [*WITH_TREE, "--kernel-pages", "image_size"], lambda folder: differs("size",
      [item.get("size") for item in first(folder)["item"]], [20_000, None]), {"Image": image(4096)}),
     ("pages that are used", [*WITH_TREE, "--dtb-pages", "used"],

@@ -127,6 +127,7 @@ RIM_MANIFEST = Program(
             Option(("-m", "--mem", "--memory", "--each-memory"), "Sizes of RAM", TEXT),
             Option(("-k", "--kernel", "--each-kernel"), "A kernel", FILE),
             Option(("-f", "--firmware"), "Firmware", FILE),
+            Option(("--firmware-address",), "Where the firmware is loaded", TEXT),
             Option(("-i", "--initrd", "--each-initrd"), "An initrd", FILE),
             Option(("-p", "--params", "--append", "--each-append"), "A command line of the kernel", TEXT),
             Option(("--lkvm",), "lkvm itself, which makes the devicetrees", PROGRAM),
