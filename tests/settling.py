@@ -150,9 +150,9 @@ def manifest(machine: Machine) -> str:
     steps, ram = [], []
     for name in names:
         first, last = blobs[name][0], blobs[name][-1]
-        if ways["ram"] == "each":
+        if ways["ram"] != "first":
             bss = (about.kernel + BSS + granule - 1) & -granule if name == "kernel" else 0
-            is_apart = machine.vmm == "kvmtool"
+            is_apart = machine.vmm == "kvmtool" and ways["ram"] == "each"
             steps.append(f"ram {len(ram)}")
             ram.append((first[5], last[6] if is_apart else max(last[6], bss)))
             steps += [f"item {each[0]}" for each in blobs[name]]
@@ -167,12 +167,13 @@ def manifest(machine: Machine) -> str:
     steps = recs + steps if machine.recs_first else steps + recs
     items = ",\n".join(f'{{ name = "{name}", kind = "{kind}", file = "{file}", at = {at}, size = {size} }}'
                        for some in blobs.values() for name, kind, file, at, size, _, _ in some)
+    level = ways["block_level"] if ways["block_level"] != "below" else 1 if machine.width >= 44 else 2 if machine.width >= 35 else 3
     pc, x = (LOW, "") if has_stub else (about.kernel, f'"{about.dtb:#x}"')
     keys = "".join(f"{key} = {str(value).lower()}\n" for key, value in machine.values.items())
     heads = "".join(f'[[file]]\nname = "{name}"\npath = "{path}"\n' for name, path in (
         ("kernel", "Image"), ("initrd", "initrd"), ("dtb", "used" if ways["dtb_pages"] == "used" else "loaded"), ("stub", "stub"), ("zeros", "zeros")))
     return (f'rim_manifest = 2\n{heads}[[launch]]\nname = "a"\nalgo = "{ways["hash"]}"\ns2sz = {machine.width}\n{keys}'
-            f'block_level = {ways["block_level"]}\nrec_rule = "{ways["rec_rule"]}"\nram = {[list(each) for each in ram]}\nitem = [\n{items}]\n'
+            f'block_level = {level}\nrec_rule = "{ways["rec_rule"]}"\nram = {[list(each) for each in ram]}\nitem = [\n{items}]\n'
             f'rec = [{{ pc = "{pc:#x}", x = [{x}] }}, {{ runnable = false }}]\nsteps = {steps}\n').replace("'", '"')
 
 
@@ -357,8 +358,8 @@ def the_file(program: str):
         wrong += [line for line in (EXPECTED, 'rec_rule = "all"\n', 'settled_by = "rim-manifest settle: sha512 ') if line not in text]
         has = folder.toml("settled.toml")
         wrong += differs("its rows", has["realm"], SETTLED)
-        wrong += differs("what is open", has["not_settled"], ["block_level=1", "dtb_file=padded", "firmware_ram=whole"])
-        wrong += differs("what no guest has", "\nnot settled: dtb_file, firmware_ram: no guest has these rows\n" in out, True)
+        wrong += differs("what is open", has["not_settled"], ["block_level=1", "dtb_file=padded", "firmware_ram=whole", "firmware_order=after"])
+        wrong += differs("what no guest has", "\nnot settled: dtb_file, firmware_ram, firmware_order: no guest has these rows\n" in out, True)
         wrong += differs("again", settle(folder, machine, "--rim", rim, "--out", "settled.toml")[::2][0], 3)
         status, report, _ = folder.run("qemu", "--host", "settled.toml", "--dtb", "tree", "--measure", "--", *QEMU)
         wrong += differs("the file is taken", (status, report.splitlines()[1].split(" ")[1:]), (0, ["sha512", rim]))
@@ -367,7 +368,7 @@ def the_file(program: str):
         wrong += differs("what is named comes first", (status, "after 1 launch:" in out), (0, True))
         has = folder.toml("settled.toml")
         wrong += differs("what it says of other guests stays", has["realm"], SETTLED | {"firmware_ram": "whole"})
-        return wrong + differs("what is open still", has["not_settled"], ["block_level=1", "dtb_file=padded", "firmware_ram=file"])
+        return wrong + differs("what is open still", has["not_settled"], ["block_level=1", "dtb_file=padded", "firmware_ram=file", "firmware_order=after"])
 
 
 def forms(program: str):
@@ -428,7 +429,7 @@ def narrowed(program: str):
              "fw": bytes(n * 7 % 251 for n in range(9001)), "firm": tree([(LOW, LOW + 1024 * MIB)], **{"pcie@10000000": None})}
     firmware = ["qemu-system-aarch64", "-M", "virt,gic-version=3,dtb-randomness=off", "-cpu", "max", "-m", "1G", "-bios", "fw"]
     truth = host_file(KNOWN | {"s2sz_max": 41}, {"stub": "measured", "rec_rule": "all", "firmware_ram": "whole",
-                                                                 "dtb_file": "padded"})
+                                                                 "firmware_order": "after", "dtb_file": "padded"})
     own = [*QEMU, "-dtb", "short"]
     with Folder(FILES | trees | {"truth.toml": truth, "known.toml": host_file(KNOWN), "line": " ".join(QEMU).encode()}) as folder:
         values = {}
@@ -440,7 +441,7 @@ def narrowed(program: str):
         for name, words, line, expected in (
                 ("one guest", ["--dtb", "one", "--rim", values["one"]], ALONE, {"stub": "measured"}),
                 ("two guests", ["--dtb", "one", "--rim", values["one"], "--guests", "guests"], ALONE, {"stub": "measured", "rec_rule": "all"}),
-                ("firmware", ["--dtb", "firm", "--rim", values["firm"]], firmware, {"firmware_ram": "whole"}),
+                ("firmware", ["--dtb", "firm", "--rim", values["firm"]], firmware, {"firmware_ram": "whole", "firmware_order": "after"}),
                 ("-dtb", ["--rim", values["own"]], own, {"stub": "measured", "rec_rule": "all", "dtb_file": "padded"})):
             status, out, said = folder.run("settle", "qemu", "--host", "known.toml", "--out", f"{name}.toml", *words, "--", *line)
             wrong += differs(name, (status, unlikely(folder, f"{name}.toml")) if not status else out + said, (0, expected))
@@ -450,7 +451,7 @@ def narrowed(program: str):
                 ("one guest", [], ["--dtb", "tree"], QEMU, ("rec_rule", "1153M-smp2-Image-initrd-sha512", "all")),
                 ("one guest", ["--row", "rec_rule=runnable"], ["--dtb", "tree"], QEMU),
                 ("one guest", [], ["--dtb", "one"], ALONE), ("two guests", [], ["--dtb", "tree"], QEMU),
-                ("two guests", [], ["--dtb", "firm"], firmware, ("firmware_ram", "1G-smp1-fw-sha512", "whole")),
+                ("two guests", [], ["--dtb", "firm"], firmware, ("firmware_ram", "1G-smp1-fw-sha512", "whole"), ("firmware_order", "1G-smp1-fw-sha512", "after")),
                 ("two guests", [], [], own, ("dtb_file", "1153M-smp2-Image-initrd-sha512", "padded")),
                 ("firmware", [], ["--dtb", "firm"], firmware)):
             status, _, said = folder.run("qemu", "--host", f"{host}.toml", *row, *words, "--measure", "--", *line)

@@ -24,7 +24,7 @@ class Parameter:
     by_hand: int                            # what a manifest that was written by hand is likely to have
 
 
-FIELD_OR_COUNT = (("as_read", "the field, which is one less than there are", 75), ("one_more", "as many as there are", 25))
+FIELD_OR_COUNT = (("as_read", "the field, which is one less than there are", 88), ("one_more", "as many as there are", 12))
 # Arm DEN0137 1.0, RmiRealmParams, in the order in which manifests have them.
 RMM_1_0 = (
     Parameter("num_bps", 0x18, None, "breakpoints", "the field of ID_AA64DFR0_EL1", FIELD_OR_COUNT, 16, (5, 15, 6, 3, 7, 1), 5),

@@ -23,7 +23,7 @@ class Facts:
     no_seeds: str = ""                          # the word without which each start has other seeds
     gic_3: str = ""                             # the word for GIC 3
     hands_over: bool = False                    # whether it hands a kernel and an initrd to firmware that it starts
-    bss_apart: bool = False                     # whether the kernel's BSS is made RAM by itself, where RAM is made for each blob
+    bss_apart: bool = False                     # whether the kernel's BSS is made RAM by itself, by `each` of the row ram
     unpacks_gzip: bool = False
     zboot: dict[str, tuple[int, int]] = field(default_factory=dict)     # by which packing, since which version it unpacks an EFI zboot
     host_needs: dict[str, str] = field(default_factory=dict)            # keys that the host's file has to have for it, and why

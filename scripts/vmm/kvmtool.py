@@ -10,7 +10,7 @@ from outside.texts import shown
 from .guest import KIB, MIB, PAGE, Blob, Guest, Memory, Processors, Word, up
 from .hypervisor import Approximate, Facts
 from .kvmtool_words import GRAMMAR, refuse_before, sort, sort_rest  # noqa: F401, what a hypervisor has
-from .layout import MEMORY, Places, Row
+from .layout import MEMORY, Places, Row, Way
 from .rows import SHARED, WIDTH_APART, WIDTH_MORE, dtb_pages_row, hash_row, kernel_pages_row, order_row, ram_ways, width_ways
 from .sorting import Sorted
 from .words import Option, memories, processors, required, size
@@ -53,13 +53,13 @@ def dtb(guest: Guest, places: Places) -> int:
 
 
 def s2sz(guest: Guest, places: Places) -> int:
-    more = int(guest.ways.get("s2sz") != "guest")
-    return min(max(32, (places.ram[-1][1] - 1).bit_length()) + more, guest.most_bits)
+    return min(max(32, (places.ram[-1][1] - 1).bit_length()) + 1, guest.most_bits)
 
 
 TABLE = [
     Row("ram", "from 0x80000000 on, or from the address after `@`, as much as --mem says; one region", ram, SOURCE, MEMORY,
-        ram_ways(55, "and the kernel's BSS after its pages"), "each: what is made RAM is measured"),
+        ram_ways(55, "and the kernel's BSS after its pages", Way("with_bss", "as each, but the kernel's BSS is made RAM with its range", 30)),
+        "each: what is made RAM is measured"),
     Row("kernel", "the base is the start of RAM", lambda guest, places: base(guest), SOURCE, MEMORY),
     Row("entry", "the base and text_offset; the base and 0x80000 where image_size is 0",
         lambda guest, places: places.kernel + guest.kernel.image.load_offset, SOURCE, MEMORY),
@@ -74,7 +74,7 @@ TABLE = [
     Row("recs", "the first processor is runnable; the others begin off and are turned on by PSCI", None, SOURCE, MEMORY),
     order_row("", 100, SOURCE),
     Row("s2sz", "the bits of RAM's last address, at least 32, and one more for the shared half of a realm",
-        s2sz, "Linux, arm-cca.rst has the example of 33 bits", MEMORY, width_ways(95), WIDTH_APART, WIDTH_MORE),
+        s2sz, "Linux, arm-cca.rst has the example of 33 bits", MEMORY, width_ways(100), WIDTH_APART, WIDTH_MORE),
     kernel_pages_row(80, SOURCE),
     dtb_pages_row(85, "all of its 64 KiB, also where it is zero", SOURCE),
     hash_row(SOURCE, ("sha256", 80), ("sha512", 20)),

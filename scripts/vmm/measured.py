@@ -5,8 +5,8 @@ from dataclasses import dataclass
 from .guest import GIB, MIB, PAGE, up
 from .realm import Item, Realm, Region
 
-# Blocks of RAM by their level, and the least width of an IPA at which tables of that level exist (docs/FORMATS.md, "Blocks of RAM").
-SIZES, WIDTHS = (512 * GIB, GIB, 2 * MIB, PAGE), (44, 35, 0, 0)
+# Blocks of RAM by their level (docs/FORMATS.md, "Blocks of RAM").
+SIZES = (512 * GIB, GIB, 2 * MIB, PAGE)
 
 
 @dataclass(frozen=True)
@@ -15,11 +15,6 @@ class Content:
 
     digest: str
     length: int
-
-
-def level_at(level: int, s2sz: int) -> int:
-    """The level that blocks have: one below that where tables begin is as that."""
-    return next(number for number in range(level, len(SIZES)) if s2sz >= WIDTHS[number])
 
 
 def blocks(region: Region, level: int) -> list[tuple[int, int, int]]:

@@ -147,7 +147,7 @@ def s2sz(guest: Guest, places: Places) -> int:
     left = guest.most_bits - more
     if is_off(machine_words(guest.machine.text), "highmem"):
         left = min(left, 32)
-    return max(32, (highest(guest, left) - 1).bit_length()) + more
+    return max(32, (highest(guest, left) - 1).bit_length() + more)
 
 
 REALM = "changes that were proposed to QEMU"
@@ -157,7 +157,7 @@ DTB_FILE = Row(
      Way("padded", "2 x (file + 10,000) bytes: the file, whose header says that length, and zeros", 50)), "each with -dtb: its length is measured")
 TABLE = [
     Row("ram", "from 0x40000000 on, as much as -m says, rounded up to 8 KiB; one region, never split at 4 GiB", ram, VIRT, SEEN,
-        ram_ways(75, "the kernel's with its BSS"), "each: what is made RAM is measured"),
+        ram_ways(85, "the kernel's with its BSS"), "each: what is made RAM is measured"),
     Row("kernel", "the base is 0x40200000 where text_offset is below 4096, else 0x40000000; also 0x40000000 where image_size is 0",
         kernel, BOOT, SEEN),
     Row("entry", "the base and text_offset; the base and 0x80000 where image_size is 0",
@@ -171,8 +171,8 @@ TABLE = [
         "system/device_tree.c of QEMU 10.0 and 10.2", SEEN),
     Row("stub", "40 bytes at 0x40000000", lambda guest, places: BASE if guest.ways.get("stub") == "measured" else None, BOOT,
         SEEN + "; whether a realm has it: " + MEMORY,
-        (Way("none", "it is no part of the realm: the first processor begins at the kernel, with the devicetree's address in x0", 85),
-         Way("measured", "it is loaded like all else, and the first processor begins at it", 15)), "each: it is measured"),
+        (Way("none", "it is no part of the realm: the first processor begins at the kernel, with the devicetree's address in x0", 93),
+         Way("measured", "it is loaded like all else, and the first processor begins at it", 7)), "each: it is measured"),
     Row("stub_bytes", "ldr x0, dtb; mov x1, xzr; mov x2, xzr; mov x3, xzr; ldr x4, kernel; br x4; then the addresses of dtb and kernel, "
         "8 bytes each, little endian: " + " ".join(f"{word:#x}" for word in STUB), stub_bytes, BOOT, SEEN),
     Row("pc", "the kernel's address; that of the stub where the realm has it",
@@ -181,9 +181,9 @@ TABLE = [
         lambda guest, places: [places.dtb] if places.stub is None else [], BOOT, SEEN + "; without a stub: " + MEMORY),
     Row("recs", "the first processor is runnable; the others begin off and are turned on by PSCI", None, BOOT,
         SEEN + "; that their RECs are not runnable: " + MEMORY),
-    order_row(" (a stub first)", 80, REALM),
+    order_row(" (a stub first)", 95, REALM),
     Row("s2sz", "the bits of the last address of the windows after RAM, of those that the host's s2sz_max and highmem leave (40 up to 510 "
-        "GiB of RAM), at least 32, and one more for the shared half of a realm", s2sz, VIRT, SOURCE + "; the one more: " + MEMORY,
+        "GiB of RAM), and one more for the shared half of a realm, at least 32", s2sz, VIRT, SOURCE + "; the one more: " + MEMORY,
         width_ways(85), WIDTH_APART, WIDTH_MORE),
     DTB_FILE,
     kernel_pages_row(75, REALM),
@@ -213,6 +213,9 @@ FIRMWARE = [
         (Way("file", "as much as the firmware's file has, in whole pages of the host", 60),
          Way("whole", "all of the 128 MiB in which flash was", 40)),
         "each with firmware: what is made RAM is measured"),
+    Row("firmware_order", "in which order RAM at 0 and that of -m are made, if all is made first", None, REALM, MEMORY,
+        (Way("address", "by rising address: RAM at 0, then that of -m", 70), Way("after", "RAM of -m, then that at 0", 30)),
+        "each with firmware: the order is measured"),
     Row("dtb", "the start of RAM, 0x40000000", lambda guest, places: BASE, FIRMWARE_BOOT, SEEN),
     Row("dtb length", "1,048,576 bytes of one that QEMU makes, which is what is loaded", None, FIRMWARE_BOOT, SEEN),
     Row("pc", "0, where the firmware begins", lambda guest, places: 0, FIRMWARE_BOOT, SEEN),

@@ -15,6 +15,8 @@ from .layout import Places
 from .rows import ADDS
 
 GRANULES = {"4k": PAGE, "16k": 4 * PAGE, "64k": 16 * PAGE}
+# The least width of an IPA at which tables of each level exist (docs/FORMATS.md, "Blocks of RAM").
+WIDTHS = (44, 35, 0, 0)
 # The file of zeros before a blob, where pages of the host are larger than 4 KiB.
 ZEROS = "zeros"
 KINDS = ("kernel", "initrd", "dtb")
@@ -80,6 +82,16 @@ class Parts:
     stub: Blob | None
 
 
+def level_at(level: int, s2sz: int) -> int:
+    """The level that blocks have: one below that where tables begin is as that."""
+    return next(number for number in range(level, len(WIDTHS)) if s2sz >= WIDTHS[number])
+
+
+def level_of(block_level: str, s2sz: int) -> int:
+    """The level of the largest blocks by an alternative of its row. A number holds for each width."""
+    return int(block_level) if block_level.isdigit() else level_at(0, s2sz) + 1
+
+
 def granule_of(taken: Mapping[str, str]) -> int:
     return GRANULES[taken.get("host_pages", "4k")]
 
@@ -141,9 +153,12 @@ def regions_of(groups: list[Group], bss_apart: bool) -> list[tuple[list[Region],
     return found
 
 
-def made_first(groups: list[Group], regions: list[Region], order: str, recs: int) -> tuple[str, ...]:
+def made_first(groups: list[Group], regions: list[Region], taken: Mapping[str, str], recs: int) -> tuple[str, ...]:
     """The steps where all of RAM is made at once."""
     ram, last = [f"ram {number}" for number in range(len(regions))], [f"rec {number}" for number in range(recs)]
+    order = taken.get("order", "address")
+    if taken.get("firmware_order") == "after" and any(group.name == "firmware" for group in groups):
+        ram = ram[1:] + ram[:1]
     items = [f"item {item.name}" for group in groups for item in group.items]
     if "," not in order:
         return (*ram, *items, *last)
@@ -185,17 +200,18 @@ def numbers_of(values: Mapping[str, int | str | bool | None], taken: Mapping[str
         if value is not None:
             is_read = key in parameters.KEYS and (key not in flag_of or bool(values.get(flag_of[key])))
             found[key] = read_number(key, int(value), taken, source) if is_read else value
-    return found | {"block_level": int(taken["block_level"]), "rec_rule": taken["rec_rule"]}
+    return found
 
 
 def of_parts(vmm: Hypervisor, parts: Parts, numbers: dict[str, int | bool | str], taken: Mapping[str, str]) -> Realm:
     """The realm of a launch."""
     places, recs = parts.places, parts.guest.smp.count
+    numbers = numbers | {"block_level": level_of(taken["block_level"], places.s2sz), "rec_rule": taken["rec_rule"]}
     groups = in_order([group_of(blob, taken) for blob in blobs_of(parts)], taken.get("order", "address"))
     regions: tuple[Region, ...] = tuple(places.all_ram)
-    if taken.get("ram") == "each":
-        regions, steps = made_each(groups, vmm.FACTS.bss_apart, taken.get("order", "address"), recs)
+    if taken.get("ram", "first") == "first":
+        steps = made_first(groups, list(regions), taken, recs)
     else:
-        steps = made_first(groups, list(regions), taken.get("order", "address"), recs)
+        regions, steps = made_each(groups, vmm.FACTS.bss_apart and taken["ram"] == "each", taken.get("order", "address"), recs)
     items = tuple(item for group in sorted(groups, key=lambda each: each.own) for item in group.items)
     return Realm(numbers, places.s2sz, regions, items, recs, places.pc, tuple(places.x), steps)

@@ -12,9 +12,11 @@ HOST_PAGES = Row(
      Way("16k", "the same with pages of 16 KiB", 5)), "one whose kernel and initrd have no whole number of 64 KiB")
 BLOCK_LEVEL = Row(
     "block_level", "the level of the largest blocks by which RAM is made", None, KVM, MEMORY,
-    (Way("0", "as large as fits, down to the level at which the tables begin: Linux's find_map_level", 75), Way("2", "2 MiB at most", 15),
-     Way("3", "pages of 4 KiB", 6), Way("1", "1 GiB at most: as 0, but for a width of 44 or more and RAM of 512 GiB", 4)),
-    "one with more than 1 GiB of RAM, and no whole number of GiB; of 0 and 1 one with 512 GiB")
+    (Way("0", "as large as fits, down to the level at which the tables begin: Linux's find_map_level", 60),
+     Way("below", "one level below that at which the tables begin: 1 GiB from a width of 44 on, 2 MiB from 35 on, else 4 KiB", 20),
+     Way("2", "2 MiB at most", 12), Way("3", "pages of 4 KiB", 5),
+     Way("1", "1 GiB at most: as 0, but for a width of 44 or more and RAM of 512 GiB", 3)),
+    "one with more than 1 GiB of RAM, and no whole number of GiB; of 0 and 1 one with 512 GiB; of below and a number one of another width")
 REC_RULE = Row(
     "rec_rule", "whether the RECs of processors that begin off are measured", None, "the standard (DEN0137), RMI_REC_CREATE", MEMORY,
     (Way("runnable", "they are not, as the standard says", 90), Way("all", "they are measured like any other", 10)), "one with two processors")
@@ -43,11 +45,11 @@ def hash_row(source: str, *ways: tuple[str, int]) -> Row:
                tuple(Way(name, f"SHA-{name[3:]}", likely) for name, likely in ways), "each: the value's length says it")
 
 
-def ram_ways(first: int, bss: str) -> tuple[Way, ...]:
-    """Whether all of RAM is made first."""
-    found = [Way("first", "all of it is made RAM, and then pages are measured", first),
-             Way("each", f"each blob's range is made RAM right before its pages, {bss}; the host makes no other RAM", 100 - first)]
-    return tuple(sorted(found, key=lambda each: -each.likely))
+def ram_ways(first: int, bss: str, *others: Way) -> tuple[Way, ...]:
+    """Whether all of RAM is made first; `others` are further alternatives, more likely than that it is made for each blob."""
+    each = f"each blob's range is made RAM right before its pages, {bss}; the host makes no other RAM"
+    return (Way("first", "all of it is made RAM, and then pages are measured", first), *others,
+            Way("each", each, 100 - first - sum(way.likely for way in others)))
 
 
 def order_row(address: str, likely: int, source: str) -> Row:
@@ -60,8 +62,8 @@ def order_row(address: str, likely: int, source: str) -> Row:
 
 def width_ways(likely: int) -> tuple[Way, ...]:
     """Whether a realm has one bit more than a plain guest."""
-    return (Way("one_more", "one bit more than a plain guest has, since the upper half is shared", likely),
-            Way("guest", "as a plain guest's", 100 - likely))
+    ways = (Way("one_more", "one bit more than a plain guest has, since the upper half is shared", likely), Way("guest", "as a plain guest's", 100 - likely))
+    return tuple(way for way in ways if way.likely)
 
 
 WIDTH_APART = "each: the width is measured"

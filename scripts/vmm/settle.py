@@ -30,9 +30,9 @@ from .hypervisor import Hypervisor
 from .launches import Launch
 from .layout import Row
 from .manifest import item_text, ram_text, recs_text, text, value_text
-from .measured import WIDTHS, Content, body_of, level_at, parts_of
+from .measured import Content, body_of, parts_of
 from .numbers import Number
-from .realm import Parts, Realm, of_parts
+from .realm import WIDTHS, Parts, Realm, level_at, level_of, of_parts
 from .rows import NUMBERS
 from .ways import Chosen
 
@@ -49,6 +49,11 @@ WIDTHS_TRIED = (40, 48, 41, 36, 39, 42, 33, 34, *range(32, 49))
 # The rows that are no part of the one axis, and those that are no choice where the words leave none.
 APART = {"hash", "s2sz", *NUMBERS}
 Structure = tuple[str, ...]
+
+
+def blocks_at(block_level: str, s2sz: int) -> int:
+    """The level of the largest blocks at a width, by an alternative of its row."""
+    return level_at(level_of(block_level, s2sz), s2sz)
 
 
 @dataclass(frozen=True)
@@ -149,8 +154,7 @@ class Alternatives:
         if tree is None:
             raise Fault("there is no such devicetree")
         stub = self.stubs[places.stub_bytes] if places.stub is not None else None
-        counted: dict[str, int | bool | str] = {"block_level": int(taken["block_level"]), "rec_rule": taken["rec_rule"]}
-        return of_parts(self.vmm, Parts(self.launch.guest, places, tree, stub), counted, taken)
+        return of_parts(self.vmm, Parts(self.launch.guest, places, tree, stub), {}, taken)
 
 
 @dataclass
@@ -178,8 +182,8 @@ class Case(Alternatives):
 
     def whole_key(self, taken: dict[str, str], structure: Structure) -> tuple[int, ...]:
         """What is measured of a combination of rows, at each width."""
-        level = int(taken["block_level"])
-        return tuple(self.body(taken, structure, each).number for each in sorted({level_at(level, width) for width in (*WIDTHS[:2], 32)}))
+        levels = [blocks_at(taken["block_level"], width) for width in (*WIDTHS[:2], 32)]
+        return tuple(self.body(taken, structure, level).number for level in levels)
 
     def parameters(self, at: At) -> tuple[tuple, str]:
         """The parameters of the realm, and their lines in a manifest."""
@@ -201,7 +205,7 @@ class Case(Alternatives):
     def candidate(self, at: At) -> Candidate | None:
         structure = self.chosen.structures[at[0]][0]
         values, lines = self.parameters(at)
-        level = level_at(int(structure[self.chosen.level_at]), int(values[0]))
+        level = blocks_at(structure[self.chosen.level_at], int(values[0]))
         body = self.bodies.get((structure, level)) or self.body(self.chosen.taken(structure), structure, level)
         return Candidate((body.number, *values), lines + body.lines, (((values, level), 1), *body.parts), origin=at)
 
@@ -253,7 +257,7 @@ def structures_of(cases: Sequence[Case], rows: list[Row], ways: list[dict[str, f
         had = found.get(key, (names, 0.0, 0.0))
         best = (names, likely) if likely > had[1] else had[:2]
         found[key] = (*best, had[2] + likely)
-        level = level_at(int(taken.get("block_level", likeliest["block_level"])), 40)
+        level = blocks_at(taken.get("block_level", likeliest["block_level"]), 40)
         steps.setdefault(key, sum(case.body(likeliest | taken, names, level).steps for case in cases))
     usual = SHARED * max(COSTLY, 2 * next(iter(steps.values()), 1))
     weighed = [(names, total * min(1.0, usual / steps[key])) for key, (names, _, total) in found.items()]
@@ -342,7 +346,7 @@ def open_of(cases: Sequence[Alternatives], rows: Sequence[Row], taken: Mapping[s
     def key(ways: Mapping[str, str]) -> tuple | None:
         try:
             widths = [case.width(ways["s2sz"]) for case in cases]
-            return tuple((width, body_of(case.realm(ways), case.contents, level_at(int(ways["block_level"]), width))) for case, width in zip(cases, widths))
+            return tuple((width, body_of(case.realm(ways), case.contents, blocks_at(ways["block_level"], width))) for case, width in zip(cases, widths))
         except Fault:
             return None
 

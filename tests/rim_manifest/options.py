@@ -76,8 +76,8 @@ kernel_pages = "image_size"
 """
 OF_ROWS = {"algo": "sha512", "s2sz": 40, "block_level": 1, "rec_rule": "all", "num_bps": 6, "num_wps": 3, "pmu_num_ctrs": 6}
 OF_HEAD = ["# What a realm changes. The alternatives that host.toml names were settled by: a machine\n",
-           "#   stub = none (85%, memory; the likeliest): it is no part of the realm",
-           "#   block_level = 1 (4%, memory; by host.toml): 1 GiB at most", "num_bps = 6                      # host, row num_bps\n"]
+           "#   stub = none (93%, memory; the likeliest): it is no part of the realm",
+           "#   block_level = 1 (3%, memory; by host.toml): 1 GiB at most", "num_bps = 6                      # host, row num_bps\n"]
 FULL_HOST = host(sve="true", sve_vl="1", num_aux="2", rpv='"' + "0f" * 64 + '"', rec_rule='"all"', hypervisor_version='"10.0.2"')
 HOST_KEYS = {"num_bps": 5, "num_wps": 3, "sve": True, "sve_vl": 1, "pmu": True, "pmu_num_ctrs": 6, "block_level": 2, "num_aux": 2,
              "rec_rule": "all", "rpv": "0f" * 64}
@@ -102,6 +102,18 @@ OPTIONS = [
     ("RAM for each blob and the BSS", [*KVMTOOL, "-i", "initrd", "--row", "ram=each"], lambda folder: differs("steps", first(folder)["steps"],
      ["ram 0", "item kernel", "ram 1", "ram 2", "item initrd", "ram 3", "item dtb", "rec 0"]) + differs("ram", first(folder)["ram"], [
          [0x8000_0000, 0x8000_5000], [0x8000_5000, 0x8020_0000], [0x8FDF_D000, 0x8FE0_0000], [0x8FE0_0000, 0x8FE1_0000]]), OF_LKVM),
+    ("RAM for each blob with the BSS", [*KVMTOOL, "-i", "initrd", "--row", "ram=with_bss"], lambda folder: differs("steps", first(folder)["steps"],
+     ["ram 0", "item kernel", "ram 1", "item initrd", "ram 2", "item dtb", "rec 0"]) + differs("ram", first(folder)["ram"], [
+         [0x8000_0000, 0x8020_0000], [0x8FDF_D000, 0x8FE0_0000], [0x8FE0_0000, 0x8FE1_0000]]), OF_LKVM),
+    *[(f"blocks below the first tables: {words[-1]}", [*words, "--row", "block_level=below"], lambda folder, level=level: differs("block_level",
+       first(folder)["block_level"], level), changed_host(block_level=None) | (OF_LKVM if words[0] == "kvmtool" else {}))
+      for words, level in ((WITH_TREE, 2), ([*WITH_TREE, "--s2sz", "44"], 1), ([*KVMTOOL, "-i", "initrd"], 3))],
+    *[(f"a width without windows: {memory}", [*replaced(replaced(WITH_TREE, "-m", memory), "-M", "virt,gic-version=3,highmem=off")], lambda folder, s2sz=s2sz:
+       differs("s2sz", first(folder)["s2sz"], s2sz), changed_tree(ram=[(LOW, LOW + size * MIB)], **NO_PCIE)) for memory, size, s2sz in (
+        ("1G", 1024, 32), ("1025M", 1025, 33))],
+    ("RAM of firmware after the other", [*without(WITH_TREE, "-kernel"), "-bios", "fw", "--row", "firmware_order=after"], lambda folder: differs("steps",
+     first(folder)["steps"], ["ram 1", "ram 0", "item firmware", "item dtb", "rec 0"]) + differs("ram", first(folder)["ram"], [[0, 0x3000], [LOW, LOW + 256 * MIB]]),
+     {"fw": FIRMWARE}, "firmware is started: the"),
     ("large pages of the host", [*KVMTOOL, "-i", "initrd", "--row", "host_pages=64k"], lambda folder: differs("items",
      [[item["name"], item["at"], item.get("size")] for item in first(folder)["item"]],
      [["kernel", 0x8000_0000, 0x1_0000], ["initrd_lead", 0x8FDF_0000, 0xD000], ["initrd", 0x8FDF_DCD4, None], ["dtb", 0x8FE0_0000, None]])
@@ -169,7 +181,7 @@ OPTIONS = [
     ("pages that are used", [*WITH_TREE, "--dtb-pages", "used"],
      lambda folder: differs("bytes", folder.read("out/dtb-1"), FILES["tree"][:4096])),
     ("a width", [*WITH_TREE, "--s2sz", "48"], lambda folder: differs("s2sz", first(folder)["s2sz"], 48)),
-    ("a width of the host", WITH_TREE, lambda folder: differs("s2sz", first(folder)["s2sz"], 33),
+    ("a width of the host", WITH_TREE, lambda folder: differs("s2sz", first(folder)["s2sz"], 32),
      changed_tree(**NO_PCIE) | changed_host(s2sz_max="39")),
     *[(f"psci: {name}", [*WITH_TREE, *row], lambda folder, data=made["tree"], old=old, new=new: differs("devicetree", folder.read("out/dtb-1"),
        data[:data.rindex(old)] + new + data[data.rindex(old) + 4:]) + differs("source", json.loads(folder.read("out/record.json"))["sources"]["dtb-1"],

@@ -43,7 +43,7 @@ QEMU_PLACES = [
     ("bytes that are rounded up", [*Q, "-m", "268435457B"], image(), None, [(LOW, 0x5000_2000)],
      {"stub": LOW, "kernel": 0x4020_0000, "dtb": 0x4800_0000}, LOW, [], 41),
     ("highmem=off", ["-M", "virt,highmem=off", "-cpu", "max", "-m", "1G"], image(), None, [(LOW, 0x8000_0000)],
-     {"stub": LOW, "kernel": 0x4020_0000, "dtb": 0x4800_0000}, LOW, [], 33),
+     {"stub": LOW, "kernel": 0x4020_0000, "dtb": 0x4800_0000}, LOW, [], 32),
     ("highmem-mmio=off", ["-M", "virt,highmem-mmio=off", "-cpu", "max", "-m", "1G"], image(), None, [(LOW, 0x8000_0000)],
      {"stub": LOW, "kernel": 0x4020_0000, "dtb": 0x4800_0000}, LOW, [], 40),
     ("highmem-ecam=off", ["-M", "virt,highmem-ecam=off", "-cpu", "max", "-m", "1G"], image(), None, [(LOW, 0x8000_0000)],
