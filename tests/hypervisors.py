@@ -5,7 +5,7 @@
 
 - Wrong words and faults: the status, the one line and that nothing is written. For speed these are runs of its `main` in a process of
   many; all others start rim-manifest itself. Command lines and domains that no launch can be made of are among them.
-- Command lines as people have them: those of tests/lines, each with the launch that was worked out by hand beside it.
+- Command lines as people have them: those of tests/lines, each with the launch that was worked out by hand beside it; and those of libvirt's own tests.
 - Random command lines: `check` has no warning about their manifests.
 - Places: addresses that were worked out by hand from docs/VMM.md, of each hypervisor.
 - Options, names, matrices, more than 64 files, a folder that is moved, an installed rim-manifest.

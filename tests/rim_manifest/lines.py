@@ -2,9 +2,11 @@
 reads them."""
 import os
 import random
+import re
 import shutil
 import subprocess
 import tomllib
+from collections.abc import Callable, Iterator
 
 from helpers import MIB, SECONDS
 from helpers.files import image, tree
@@ -194,7 +196,47 @@ def line(program: str, name: str):
         return wrong + read_by(program, folder, count=1)
 
 
+# Of the lines of libvirt's tests, those of other RAM in MiB or of more processors, with the devicetree's address.
+OF_LIBVIRT = {"aarch64-default-cpu-kvm-virt-4.2.aarch64-latest": (4096, 1, 0x4800_0000), "aarch64-default-cpu-tcg-virt-4.2.aarch64-latest": (
+    4096, 1, 0x4800_0000), "aarch64-usb-controller-nec-xhci": (214, 1, 0x46C0_0000), "aarch64-usb-controller-qemu-xhci": (214, 1, 0x46C0_0000),
+    "clock-timer-armvtimer.aarch64-latest": (4096, 4, 0x4800_0000)}
+
+
+def of_libvirt(program: str) -> Iterator[tuple[str, Callable[[], list[str]]]]:
+    """The lines of libvirt's tests, with GIC 3 and a 64-bit processor, and files of these tests in the place of theirs."""
+    with open(os.path.join(LINES, "libvirt.txt"), encoding="utf-8") as file:
+        found = [each.split("\n", 1) for each in re.split(r"(?:\A|\n)# (?=[a-z0-9.-]+\n)", file.read())[1:]]
+    for name, text in found:
+        has = {key: f"-{key} " in text for key in ("kernel", "initrd", "dtb")}
+        ram, count, at = OF_LIBVIRT.get(name, (1024, 1, 0x4820_0000 if has["initrd"] else 0x4800_0000))
+        text = text.replace("/aarch64.kernel", "Image").replace("/aarch64.initrd", "initrd").replace("/aarch64.dtb", "tree").rstrip("\n")
+        text += " -M gic-version=3" + " -cpu cortex-a57" * (not re.search("-cpu (host|cortex-a5)", text)) + " -kernel Image" * (not has["kernel"])
+        append = re.search("-append (?:'(.*?)'|(\\S+))", text)
+        made = tree([(LOW, LOW + ram * MIB)], (append[1] or append[2]) if append else "", (0x4800_0000, 0x4800_0000 + len(INITRD)) if has["initrd"] else None,
+                    count, **{} if "cortex" not in text else {"cpus": processors(re.findall("-cpu (cortex-a[0-9]+)", text)[-1])})
+        yield f"line of libvirt's {name}", lambda each=(text, made, [] if has["dtb"] else ["--dtb", "tree"], ram, count, at): taken(program, *each)
+
+
+def processors(model: str) -> dict:
+    """The one processor of a devicetree."""
+    return {"#address-cells": b"\0\0\0\1", "cpu@0": {"compatible": f"arm,{model}\0".encode(), "reg": bytes(4)}}
+
+
+def taken(program: str, text: str, made: bytes, words: list[str], ram: int, count: int, at: int) -> list[str]:
+    about = host(sve="true", sve_vl="3") if "sve512=on" in text else host()
+    with Folder({"tree": made, "l": text.encode(), "host.toml": about}) as folder:
+        status, _, said = folder.run("qemu", "--line", "l", "--host", "host.toml", "--out", "out", *words)
+        if status:
+            return [said]
+        launch = first(folder)
+        wrong = differs("ram", launch["ram"][-1:], [[LOW, LOW + ram * MIB]]) + differs("RECs", len(launch["rec"]), count)
+        wrong += differs("items", {item["name"]: item["at"] for item in launch["item"] if item["name"] in ("kernel", "dtb")},
+                         {"kernel": 0x4020_0000, "dtb": at})
+        return wrong + read_by(program, folder, count=1)
+
+
 def lines(program: str):
+    yield from of_libvirt(program)
     for name in sorted(os.listdir(LINES)):
         if name.endswith(".toml"):
             yield f"line of {name.removesuffix('.toml')}", lambda name=name: line(program, name.removesuffix(".toml"))
