@@ -575,18 +575,6 @@ def stopped_first(_path: str) -> list[str]:
         return differs("tried, all of the round", (looked.tried, looked.rounds[0].is_whole), (3000 - 64, False))
 
 
-def fitting(_path: str) -> list[str]:
-    """Where a launch that has the value does not fit, another way to the same launch may: one that came before, or one that comes later."""
-    wrong = []
-    for several, wanted in (([1, 2, 2, 3], 2), ([1, 2, 3, 2], 3), ([2, 1, 3, 3], None)):
-        given = [Candidate(key, str(key), ((key, 1),), origin=place) for place, key in enumerate(several)]
-        heard: list[int] = []
-        _, looked = engine(hit=2, fits=lambda each, wanted=wanted: each.origin == wanted, heard=lambda tried: heard.extend(each.key for each in tried))
-        hit = looked.found("", given)
-        wrong += differs(f"{several}", (hit and hit.origin, sorted(heard)), (wanted, [1, 2, 3]))
-    return wrong
-
-
 # ---- the value, words and faults
 
 
@@ -934,7 +922,7 @@ def all_tries(program: str):
             yield f"lines of {axis.name} of {name}", lambda axis=axis, name=name: lines_of(program, axis, name)
     for name in ("plain", "stub", "old"):
         yield f"with what {name} begins", lambda name=name: begins(program, name)
-    for look in (in_runs, begin_alike, large_files, heads, many_steps, rounds, too_few, at_once, round_after_round, no_time, stopped_first, fitting, forms, others, alike, stopped, hidden, lines_said, not_found, words, refused, traces, terminal, installed, documents, example):
+    for look in (in_runs, begin_alike, large_files, heads, many_steps, rounds, too_few, at_once, round_after_round, no_time, stopped_first, forms, others, alike, stopped, hidden, lines_said, not_found, words, refused, traces, terminal, installed, documents, example):
         yield look.__name__, lambda look=look: look(program)
 
 

@@ -447,6 +447,11 @@ def narrowed(program: str):
             wrong += differs(name, (status, unlikely(folder, f"{name}.toml")) if not status else out + said, (0, expected))
             wrong += differs(f"{name}: what is open", "not settled: rec_rule = runnable: all gives the same" in out,
                              name in ("one guest", "firmware"))
+        folder.put("guests", f'[[guest]]\nline = "line"\ndtb = "tree"\nrim = "{"5a" * 64}"\n'.encode())
+        status, out, _ = folder.run("settle", "qemu", "--host", "known.toml", "--out", "n", "--dtb", "one", "--rim", values["one"], "--guests", "guests", "--", *ALONE)
+        count = re.search("none of ([0-9,]+) launches", out)
+        wrong += differs("another value of a second guest", (status, int(count[1].replace(",", "")) < 2000 if count else out, "by no such combination" in out),
+                         (1, True, True))
         for host, row, words, line, *expected in (
                 ("one guest", [], ["--dtb", "tree"], QEMU, ("rec_rule", "1153M-smp2-Image-initrd-sha512", "all")),
                 ("one guest", ["--row", "rec_rule=runnable"], ["--dtb", "tree"], QEMU),

@@ -104,8 +104,7 @@ def in_runs(some: Sequence[Candidate], found: Sequence[list[int]] | None = None)
 
 @dataclass
 class Search:
-    """The search for a launch that has a value. `fits` says of a launch that has it whether it is the one that is looked for: where more than
-    one value is given, other ways to the same launch may be. `heard` gets the launches that were tried."""
+    """The search for a launch that has a value. `heard` gets the launches that were tried."""
 
     runs: Runs
     value: Value
@@ -113,7 +112,6 @@ class Search:
     progress: Progress
     until: float = math.inf                                     # when it ends, by the clock of time.monotonic
     waits: bool = False                                         # whether what is costly waits for the end of its round
-    fits: Callable[[Candidate], bool] | None = None
     heard: Callable[[Sequence[Candidate]], None] | None = None
     at_once: int = AT_ONCE
     rounds: list[Round] = field(default_factory=list)
@@ -124,10 +122,7 @@ class Search:
     over: list[Candidate] = field(default_factory=list)         # those of them that are too few for a run, and until when that would begin
     over_until: float = math.inf
     keys: set[object] = field(default_factory=set)              # of all launches that were tried: by what one is known from another, whole
-    doubles: dict[object, list[Candidate]] = field(default_factory=dict)
     is_found: bool = False                                      # whether a run has what is looked for: no more are begun
-    had: object = None                                          # the key of a launch that has the value, and did not fit
-    fitting: Candidate | None = None
     left: list[Candidate] = field(default_factory=list)
 
     @property
@@ -146,18 +141,18 @@ class Search:
 
     def found(self, about: str, candidates: Iterable[Candidate | None], most: int | None = None, until: float = math.inf,
               vast: float = math.inf) -> Candidate | None:
-        """The first launch of one round that has the value and fits."""
+        """The first launch of one round that has the value."""
         return self.found_in([Planned(about, candidates, most, until, vast)])
 
     def found_in(self, planned: Iterable[Planned]) -> Candidate | None:
-        """The first launch that has the value and fits, of some rounds. While launches are measured, the next ones are made, those of the next
+        """The first launch that has the value, of some rounds. While launches are measured, the next ones are made, those of the next
         round too: no processor waits for the last runs of a round."""
         pool = ThreadPoolExecutor(self.at_once)
         waiting: deque[Begun] = deque()
         try:
             hit = next(filter(None, (self.found_of(each, pool, waiting) for each in planned)), None)
-            hit = hit or self.found_by(in_runs(self.over if self.fitting is None else ()), self.over_until, pool, waiting)
-            return hit or self.fitting or next(filter(None, map(self.taken, waiting)), None)
+            hit = hit or self.found_by(in_runs(self.over), self.over_until, pool, waiting)
+            return hit or next(filter(None, map(self.taken, waiting)), None)
         except Stopped:
             pool.shutdown(cancel_futures=True)
             self.count_ended(waiting)
@@ -171,7 +166,7 @@ class Search:
         """Begins the runs of a round."""
         here, self.over_until = Round(planned.about), min(planned.until, self.until)
         self.rounds.append(here)
-        return self.found_by(self.batches(self.new(planned, here, self.over_until)), self.over_until, pool, waiting) or self.fitting
+        return self.found_by(self.batches(self.new(planned, here, self.over_until)), self.over_until, pool, waiting)
 
     def found_by(self, batches: Iterable[list[Candidate]], end: float, pool: ThreadPoolExecutor, waiting: deque[Begun]) -> Candidate | None:
         """Begins runs. What came of earlier ones is taken, in their order, where it has come or too many would wait."""
@@ -187,7 +182,7 @@ class Search:
         if self.is_found or stopping.is_stopped() or end <= time.monotonic():
             return None
         came = self.runs.outcome(batch, self.value)
-        if came.hit is not None and self.fits is None:
+        if came.hit is not None:
             self.is_found = True
         return came
 
@@ -208,16 +203,7 @@ class Search:
         for looks, each in enumerate(planned.candidates):
             if self.made >= end or looks > most_looks or time.monotonic() >= until:
                 return
-            if each is None:
-                continue
-            if each.key == self.had and self.had is not None:
-                if self.fits is None or self.fits(each):
-                    self.fitting = each
-                    return
-            elif each.key in self.keys:
-                if self.fits is not None:
-                    self.doubles.setdefault(each.key, []).append(each)
-            else:
+            if each is not None and each.key not in self.keys:
                 self.keys.add(each.key)
                 if each.steps > planned.vast:
                     self.left.append(each)
@@ -249,9 +235,8 @@ class Search:
             if len(some) == among:
                 yield from self.filled(some)
                 some, among = [], self.among
-        if self.fitting is None:
-            for each in filter(None, (some, late)):
-                yield from self.filled(each)
+        for each in filter(None, (some, late)):
+            yield from self.filled(each)
 
     def filled(self, some: list[Candidate]) -> Iterator[list[Candidate]]:
         """Launches for a run each, with those that were too few before. The last of them, where they are too few and none has waited before, wait."""
@@ -274,13 +259,7 @@ class Search:
         about = self.made_of[run.batch[-1].key].about
         self.count(run, came)
         self.progress.show(f"{self.tried:,} launches tried" + f", {about}" * bool(about))
-        if came.hit is None:
-            return None
-        hit = run.batch[came.hit]
-        if self.fits is None:
-            return hit
-        self.had = hit.key
-        return next((each for each in (hit, *self.doubles.get(hit.key, ())) if self.fits(each)), None)
+        return None if came.hit is None else run.batch[came.hit]
 
     def count(self, run: Begun, came: Outcome):
         """Counts the launches of a run as tried."""

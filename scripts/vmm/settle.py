@@ -415,31 +415,34 @@ class Reached:
                 ways.add(place)
 
 
-@dataclass
-class Other:
-    """Another guest whose value is given: what was measured of it, and what has its value."""
-
-    case: Case
-    tried: set[object] = field(default_factory=set)
-    found: object = None
-
-    def fits(self, at: At) -> bool:
-        """Whether it has its value by a combination."""
-        candidate = self.case.candidate(at)
-        if candidate is None:
-            return False
-        if candidate.key not in self.tried:
-            self.tried.add(candidate.key)
-            if self.case.runs.outcome([candidate], self.case.value).hit is not None:
-                self.found = candidate.key
-        return candidate.key == self.found
+def search_of(case: Case | Beginning, axes: Sequence[Axis], limit: int) -> tuple[Search, Reached]:
+    """The search for the combination by which a guest has its value; and what it tries."""
+    reached = Reached([set() for _ in axes])
+    return Search(case.runs, case.value, limit, Progress("rim-manifest"), heard=reached.hear), reached
 
 
-def search_of(case: Case | Beginning, axes: Sequence[Axis], others: Sequence[Case], limit: int) -> tuple[Search, Reached]:
-    """The search for the combination by which a guest, and others, have their values; and what it tries."""
-    reached, several = Reached([set() for _ in axes]), [Other(each) for each in others]
-    fits = (lambda hit: all(each.fits(hit.origin) for each in several)) if several else None
-    return Search(case.runs, case.value, limit, Progress("rim-manifest"), fits=fits, heard=reached.hear), reached
+def alike(case: Case, at: At, some: Sequence[At] | None) -> list[At]:
+    """Returns the combinations of which a guest has the same measurement as by one: those of some, or of all, the likeliest first. Numbers that
+    are measured alike are so for each guest, so they stay."""
+    choices, found = case.chosen, case.candidate(at)
+    if some is None:
+        axes = choices.axes()
+        widths = [place for place in range(len(choices.widths)) if case.width_of(place) == case.width_of(at[1])]
+        every = ((structure, width, *at[2:]) for structure in range(len(choices.structures)) for width in widths)
+        some = sorted(every, key=lambda each: -axes[0].likely[each[0]] * axes[1].likely[each[1]])
+    candidates = ((each, case.candidate(each)) for each in some)
+    return [each for each, candidate in candidates if candidate and found and candidate.key == found.key]
+
+
+def others_found(cases: Sequence[Case], at: At, limit: int) -> tuple[list[At], Search | None]:
+    """Returns the combinations that give the values of all guests, of those that give the first one's; and the search of the last guest that was
+    looked at, if there are others."""
+    left, looked = alike(cases[0], at, None) if cases[1:] else [at], None
+    for case in cases[1:]:
+        looked, _ = search_of(case, case.chosen.axes(), limit)
+        hit = looked.found("", map(case.candidate, left))
+        left = alike(case, hit.origin, left) if hit else []
+    return left, looked
 
 
 def search(cases: list[Case], choices: Choices, limit: int, algo: str | None) -> Outcome:
@@ -448,7 +451,7 @@ def search(cases: list[Case], choices: Choices, limit: int, algo: str | None) ->
     traced = next((case for case in cases if case.trace), None)
     if traced:
         beginning, axes = Beginning(traced), [Axis("rows", (1.0,)), *choices.axes()[1:]]
-        first, reached = search_of(beginning, axes, (), limit)
+        first, reached = search_of(beginning, axes, limit)
         hit = first.found("", map(beginning.candidate, best_first(axes)))
         before = first.tried
         if hit is None:
@@ -459,17 +462,20 @@ def search(cases: list[Case], choices: Choices, limit: int, algo: str | None) ->
         for case in cases:
             case.choices = choices
     axes = choices.axes()
-    main, reached = search_of(cases[0], axes, cases[1:], max(limit - before, 1))
+    main, reached = search_of(cases[0], axes, max(limit - before, 1))
     try:
         hit = main.found("", map(cases[0].candidate, best_first(axes)))
     except Stopped:
         print("\n".join([f"the search was stopped; none of {before + main.tried:,} launches has the value. Tried were",
                          *(f"  {line}" for line in tried_lines(choices, reached.ways))]), flush=True)
         raise
-    settled = settled_of(cases, choices, hit.origin, algo) if hit else None
+    left, last = others_found(cases, hit.origin, limit) if hit else ([], None)
+    settled = settled_of(cases, choices, left[0], algo) if left else None
     lines = nearest_lines(traced, choices) if traced and not settled else []
+    if hit and not left:
+        lines.append(f"the value of {cases[0].launch.name} is given, and by no such combination those of all other guests")
     lines += [] if settled else tried_lines(choices, reached.ways)
-    return Outcome(settled, before + main.tried, main.refused, choices.count, lines, main.rounds[-1].is_whole)
+    return Outcome(settled, before + main.tried + (last.tried if last else 0), main.refused, choices.count, lines, main.rounds[-1].is_whole)
 
 
 def nearest_lines(case: Case, choices: Choices) -> list[str]:
