@@ -147,6 +147,7 @@ def manifest(machine: Machine) -> str:
     if has_stub:
         blobs["stub"] = blob("stub", "raw", LOW, LOW, 40, granule)
     names = list(blobs) if ways["order"] == "kind" else sorted(blobs, key=lambda each: blobs[each][-1][5])
+    names = ["dtb", *(each for each in names if each != "dtb")] if ways["order"] == "dtb_first" else names
     steps, ram = [], []
     for name in names:
         first, last = blobs[name][0], blobs[name][-1]
@@ -505,6 +506,15 @@ def none_found(program: str):
         status, traced, _ = settle(folder, machine, "--trace", "trace", "--out", "settled.toml")
         wrong += differs("by its trace", (status, [line for line in ("  the first 1 of ", "  its next step, which is not the machine's: init_ripas ")
                                                    if line not in traced]), (1, []))
+        folder.put("other.toml", manifest(likeliest()).encode())
+        steps = subprocess.run([program, "trace", "other.toml", "a"], cwd=folder.path, capture_output=True, check=True, text=True).stdout.splitlines()
+        blocks = [number for number, line in enumerate(steps) if " init_ripas " in line]
+        coarse = [line for number, line in enumerate(steps) if number not in blocks[:-1]][:-1] + ["5a" * 64 + " rec_create"]
+        folder.put("trace", "\n".join(coarse).encode())
+        status, traced, _ = settle(folder, machine, "--trace", "trace", "--limit", "500", "--out", "settled.toml")
+        wrong += differs("a trace by commands", (status, len(blocks) > 2, [line for line in (
+            f"  the first {len(coarse) - 1} of {len(coarse)} steps of the trace are those of the launch by ", "not the machine's: rec_create ")
+            if line not in traced]), (1, True, []))
         folder.put("known.toml", host_file(KNOWN | {"num_bps": 3}))
         folder.put("trace", b"0" * 128 + trace[128:])
         status, traced, _ = settle(folder, machine, "--trace", "trace", "--row", "num_bps=as_read", "--limit", "500", "--out", "settled.toml")
@@ -549,7 +559,7 @@ def wrong_words(_program: str):
 def rows(program: str):
     """Machines with several rows that are not the likeliest: pages of the host, RAM for each blob, pages of blobs."""
     wrong = []
-    for vmm, ways in (("qemu", {"host_pages": "64k", "ram": "each", "dtb_pages": "used"}), ("kvmtool", {"host_pages": "16k", "ram": "each"}),
+    for vmm, ways in (("qemu", {"host_pages": "64k", "ram": "each", "dtb_pages": "used"}), ("kvmtool", {"host_pages": "16k", "ram": "each", "order": "dtb_first"}),
                       ("cloud-hypervisor", {"kernel_pages": "image_size", "host_pages": "64k", "order": "kind"})):
         machine = likeliest(vmm, **ways)
         with folder_of(machine) as folder:

@@ -11,7 +11,7 @@ from .guest import KIB, MIB, PAGE, Blob, Guest, Memory, Processors, Word, up
 from .hypervisor import Approximate, Facts
 from .kvmtool_words import GRAMMAR, refuse_before, sort, sort_rest  # noqa: F401, what a hypervisor has
 from .layout import MEMORY, Places, Row, Way
-from .rows import SHARED, WIDTH_APART, WIDTH_MORE, dtb_pages_row, hash_row, kernel_pages_row, order_row, ram_ways, width_ways
+from .rows import DTB_FIRST, SHARED, WIDTH_APART, WIDTH_MORE, dtb_pages_row, hash_row, kernel_pages_row, order_row, ram_ways, width_ways
 from .sorting import Sorted
 from .words import Option, memories, processors, required, size
 
@@ -72,7 +72,7 @@ TABLE = [
     Row("pc", "the kernel's address; there is no stub", lambda guest, places: places.entry, SOURCE, MEMORY),
     Row("x", "x0 is the devicetree's address", lambda guest, places: [places.dtb], SOURCE, MEMORY),
     Row("recs", "the first processor is runnable; the others begin off and are turned on by PSCI", None, SOURCE, MEMORY),
-    order_row("", 100, SOURCE),
+    order_row("", 95, SOURCE, DTB_FIRST),
     Row("s2sz", "the bits of RAM's last address, at least 32, and one more for the shared half of a realm",
         s2sz, "Linux, arm-cca.rst has the example of 33 bits", MEMORY, width_ways(100), WIDTH_APART, WIDTH_MORE),
     kernel_pages_row(80, SOURCE),

@@ -132,8 +132,8 @@ def group_of(blob: tuple[str, str, Blob, int, int], taken: Mapping[str, str]) ->
 
 def in_order(groups: list[Group], order: str) -> list[Group]:
     """The groups in the order in which they are measured."""
-    if order == "address":
-        return sorted(groups, key=lambda each: each.items[-1].start)
+    if order in ("address", "dtb_first"):
+        return sorted(groups, key=lambda each: (order == "dtb_first" and each.name != "dtb", each.items[-1].start))
     if order == "kind":
         return sorted(groups, key=lambda each: KINDS.index(each.items[-1].kind) if each.items[-1].kind in KINDS else len(KINDS))
     words = order.split(",")

@@ -1,5 +1,7 @@
 """Rows that a realm may change, which hypervisors share. How likely an alternative is, is from memory of the changes that were proposed to
 Linux, QEMU and kvmtool: nothing that can be installed settles it, and one measurement of a machine does."""
+from dataclasses import replace
+
 from outside.parameters import RMM_1_0, Parameter
 
 from .layout import MEMORY, SOURCE, Row, Way
@@ -52,10 +54,13 @@ def ram_ways(first: int, bss: str, *others: Way) -> tuple[Way, ...]:
             Way("each", each, 100 - first - sum(way.likely for way in others)))
 
 
-def order_row(address: str, likely: int, source: str) -> Row:
+KIND = Way("kind", "kernel, initrd, devicetree, and what else there is", 0)
+DTB_FIRST = Way("dtb_first", "the devicetree, and then by rising address", 0)
+
+
+def order_row(address: str, likely: int, source: str, other: Way = KIND) -> Row:
     """In which order blobs are measured."""
-    ways = (Way("address", "by rising address", likely), Way("kind", "kernel, initrd, devicetree, and what else there is", 100 - likely))
-    ways = ways if likely < 100 else ways[:1]
+    ways = (Way("address", "by rising address", likely), replace(other, likely=100 - likely))
     return Row("order", f"RAM, then what is placed by rising address{address}, then the RECs", None, source, MEMORY, ways,
                "one with a stub, with firmware, or whose devicetree comes first", "ram, rec and the blobs, parted by commas")
 

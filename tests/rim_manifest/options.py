@@ -90,6 +90,8 @@ OPTIONS = [
      "steps", first(folder)["steps"], ["rec 0", "ram 0", "item kernel", "item dtb", "item stub"])),
     ("an order by kind", [*WITH_TREE, "--stub", "measured", "--order", "kind"], lambda folder: differs(
      "steps", first(folder)["steps"], ["ram 0", "item kernel", "item dtb", "item stub", "rec 0"])),
+    ("the devicetree first", [*KVMTOOL, "-i", "initrd", "--order", "dtb_first"], lambda folder: differs("steps", first(folder)["steps"],
+     ["ram 0", "item dtb", "item kernel", "item initrd", "rec 0"]), OF_LKVM),
     ("rows by the host's file", [*WITH_TREE, "-smp", "2"], lambda folder: differs("keys", {key: first(folder).get(key) for key in OF_ROWS}, OF_ROWS)
      + differs("the head", [line in folder.read("out/manifest.toml").decode() for line in OF_HEAD], [True] * len(OF_HEAD)),
      {"host.toml": host(block_level=None, rec_rule=None, settled_by='"a machine"') + REALM_TABLE} | changed_tree(count=2, **NO_PCIE)),
