@@ -130,7 +130,7 @@ def value_shown(value: object) -> str:
     """A value of TOML in a line."""
     if isinstance(value, bool):
         return "true" if value else "false"
-    if isinstance(value, dict | list):
+    if isinstance(value, (dict, list)):
         return "a table" if isinstance(value, dict) else "an array"
     if isinstance(value, int) and abs(value) >= 1 << 64:
         return "a large number"

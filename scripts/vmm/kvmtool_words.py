@@ -2,6 +2,8 @@
 
 For a devicetree lkvm starts the guest itself. So a dump is given no word by which it would open what a running guest has open.
 """
+from __future__ import annotations
+
 import re
 
 from outside.faults import WrongWords
