@@ -6,6 +6,9 @@
    A call reads only what it is given, writes only to `out`, `length` and `algorithm`, takes no lock, starts no thread, keeps no memory after it
    returns, and changes nothing else. So any number of threads may be in calls at a time, each with its own `out` and `length`.
 
+   A file that is too large is refused by its length. The manifest, and an Image, a devicetree or a listing, are read in place and not copied.
+   The files that a manifest names are copied once, so a call about launches takes that much memory, and room for its answer.
+
    What a caller owes, for every call:
    - a pointer and its length say where that many bytes, or files, are. A pointer may be null where its length is 0, but for those within `files`;
    - what is read is not changed by another thread during the call;

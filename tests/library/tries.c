@@ -7,6 +7,7 @@
 #include <stdlib.h>
 #include <string.h>
 #include <sys/mman.h>
+#include <sys/resource.h>
 
 static int tried;
 
@@ -108,7 +109,15 @@ static void of_no_path(const struct given *given) {
     look("a manifest of no path", is_same(&measure, given, &nameless));
 }
 
+/* The largest amount of memory that the process has had, in KiB. */
+static long most_memory(void) {
+    struct rusage used;
+    return getrusage(RUSAGE_SELF, &used) == 0 ? used.ru_maxrss : 0;
+}
+
+/* A file that is too large is refused by its length, and an Image of the limit is read where it is: neither is copied. */
 static void too_large(const struct given *given) {
+    long before = most_memory();
     size_t length = ((size_t)256 << 20) + 1;
     rim_file files[MOST];
     struct given larger = {given->subject, files, given->count};
@@ -122,6 +131,9 @@ static void too_large(const struct given *given) {
     look("a manifest of a byte too many", code_of(&measure, &manifest) == RIM_FILE_TOO_LARGE);
     struct asked image = {.command = "image"};
     look("an Image of a byte too many", code_of(&image, &manifest) == RIM_FILE_TOO_LARGE);
+    manifest.subject.length--;
+    look("an Image of as many bytes as a file may have", code_of(&image, &manifest) == RIM_KERNEL_BAD_MAGIC);
+    look("nothing large is copied", most_memory() < before + (128 << 10));
     munmap(zeros, length);
 }
 

@@ -17,7 +17,7 @@ use Rattle.rim_files.specs.declared.file.TheConstants.{FILE_LIMIT}
 -- a fault of a file that is no want of memory is why the file cannot be read
 pub unread_said : (known : Known) (path hint : List ℕ) (fault : Fault) → IsFileFault known fault → (fault ≡ NoMemory → ⊥)
     → IsUnread known path (file_said path (word_of fault) hint)
-unread_said known path hint FileUnreadable is other = (hint, inl refl)
+unread_said known path hint FileUnreadable is other = (hint, inl (refl, is))
 unread_said known path hint FileTooLarge is other = (hint, inr (refl, is))
 unread_said known path hint NoMemory is other = absurd (other refl)
 unread_said known path hint (Manifest fault) is other = absurd is

@@ -9,7 +9,7 @@ use Rattle.rim_files.specs.declared.file.TheConstants.{FILE_LIMIT}
 -- what is said of the file at a path, of which this is known: its path and the word of why it cannot be read, with a hint of which
 -- nothing is known
 abbrev pub IsUnread : Known → List ℕ → Saying → Type 0
-IsUnread known path s = (hint : List ℕ) × ((s ≡ file_said path (word_of FileUnreadable) hint)
+IsUnread known path s = (hint : List ℕ) × (((s ≡ file_said path (word_of FileUnreadable) hint) × IsFileFault known FileUnreadable)
     ⊎ ((s ≡ file_said path (word_of FileTooLarge) hint) × IsFileFault known FileTooLarge))
 
 -- the first saying is why the file at a path cannot be read, and the others follow

@@ -9,10 +9,12 @@ use file_front::{DevicetreeFront, image_front};
 use refusal::NoMemory;
 use rim_check::{MarkedLine, Nearest, Remark};
 use rim_files::{Fault, Opener, Unread, read_or_why};
-use rim_release::{ShowFault, read_manifest};
+use rim_manifest::read_manifest;
+use rim_show::ShowFault;
 use rim_words::{Ask, Request};
 use shown_text::{Line, Quoted, Word};
 use std::alloc::Global;
+use std::convert::AsSlice;
 use std::fmt::Write as _;
 use std::io::{ErrorKind, Write};
 

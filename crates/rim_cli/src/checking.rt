@@ -7,14 +7,16 @@ ghost use Rattle.rim_cli.specs.inside.Found.{AreFound, HasRemark, findings_of};
 
 use crate::answer::Answer;
 use refusal::NoMemory;
+use rim_accepted::{Files, LoadedRelease};
 use rim_check::{
     LaunchCheck, ManifestCheck, MarkedLine, ReleaseFault, Remark, check_json, check_launches,
     check_manifest, lines_of, mark_first, push_file,
 };
-use rim_files::{FILE_LIMIT, Fault, Opener, Unread, read_file, read_or_why};
-use rim_release::{Files, LoadedRelease, Release};
+use rim_files::{FILE_LIMIT, Fault, Opener, Unread, copy_file, read_file};
+use rim_manifest::Release;
 use rim_words::Format;
 use std::alloc::{AllocError, Global};
+use std::convert::AsSlice;
 use std::io::ErrorKind;
 
 /// What a check has found: the faults, the warnings, and the exit status that it ends with.
@@ -193,7 +195,7 @@ fn find_files<O: Opener>(
     let mut unread = Vec::new(alloc);
     for i in 0..release.file_count() {
         let path = release.path(i);
-        match read_or_why(alloc, opener, path) {
+        match copy_file(alloc, opener, path) {
             Ok(bytes) => files.push(bytes).map_err(|_| Fault::NoMemory)?,
             Err(why) => push_unread(&mut unread, path, why)?,
         }

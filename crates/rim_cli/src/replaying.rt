@@ -5,8 +5,9 @@ ghost use Rattle.rim_cli.specs.Replayed.{IsReplayed, replay_text};
 
 use crate::answer::Answer;
 use rim_files::{Fault, Opener, read_file};
-use rim_release::{ReplayFault, refused_kind};
+use rim_replay::{ReplayFault, refused_kind};
 use std::alloc::{AllocError, Global};
+use std::convert::AsSlice;
 
 /// Whether the listing at a path is what it says: its commands are given to a monitor, line by line.
 pub fn replay<O: Opener>(alloc: Global, opener: &mut O, path: &str) -> Result<Answer, Fault>
@@ -17,7 +18,7 @@ pub fn replay<O: Opener>(alloc: Global, opener: &mut O, path: &str) -> Result<An
     ensures stays { O.held opener.new ≡ O.held opener.old }
 {
     let bytes = read_file(alloc, opener, path)?;
-    let answer = rim_release::replay(alloc, bytes.as_slice());
+    let answer = rim_replay::replay(alloc, bytes.as_slice());
     let status = if answer.is_err() { 1 } else { 0 };
     let text = replay_text(alloc, answer).map_err(|_| Fault::NoMemory)?;
     Ok(Answer {

@@ -1,18 +1,37 @@
 -- Files are opened one after another and read at once; the fault is that of the first that cannot be read.
-use Rattle.std.proofs.Common.{◌≡◌, ℕ, zero, suc, ◌+◌, ◌<◌, ◌≤◌, List, [], ◌∷◌, ◌++◌, length, slice_get, slice_index_or, take, Option}
-use Rattle.std.proofs.Common.{Result, Ok, Err, Some, None, IfErr, IfOk, IfSome, option_map, ap, subst, sym, arith, inl, inr, refl}
-use Rattle.std.specs.List.{AllZip}
-use Rattle.std.proofs.lemmas.Option.{same_Some}
-use Rattle.rim_files.specs.Files.{AreRead, IsFileFault, IsFirstFault, IsRead, Known}
-use Rattle.rim_files.specs.AtOnce.{AreFollowedBy, IsOpened, Tells}
+use Rattle.std.proofs.Common.{◌≡◌, ℕ, zero, suc, ◌+◌, ◌<◌, ◌≤◌, List, [], ◌∷◌, ◌++◌, length, slice_get, take, Option}
+use Rattle.std.proofs.Common.{Result, Ok, Err, Some, None, IfErr, IfOk, IfSome, option_map, ap, ◌∙◌, subst, sym, arith, inl, inr, refl}
+use Rattle.std.specs.Prelude.{All, is_some, true}
+use Rattle.std.proofs.lemmas.List.Elements.{All-head, All-tail}
+use Rattle.std.proofs.lemmas.Option.{none-some, same_Some}
+use Rattle.rim_files.specs.Files.{AreRead, IfFile, IsFileFault, IsFirstFault, IsRead, Known}
+use Rattle.rim_files.specs.AtOnce.{AreFollowedBy, IsOutcome, IsUnknown}
 use Rattle.rim_files.specs.declared.fault.Fault.{Fault}
 use Rattle.rim_files.specs.declared.fault.Fault.TheVariants.{FileTooLarge, FileUnreadable, NoMemory}
 use Rattle.rim_files.specs.declared.file.TheConstants.{FILE_LIMIT}
-use Rattle.rim_files.proofs.ReadFileByFile.{of_bytes}
+use Rattle.rim_files.proofs.ReadFileByFile.{of_bytes, read_next}
 
--- what is known of the answer of a reader of a file of which this is known
+-- what is known of the outcome of reading a file of which nothing is known
 abbrev pub IsAnswer : {V : Type 0} → (V → List ℕ) → Known → Result V Fault → Type 0
-IsAnswer bytes_of known answer = IfOk answer (λ v. IsRead known (bytes_of v)) × IfErr answer (IsFileFault known)
+IsAnswer bytes_of known outcome = (known ≡ None) × IsOutcome bytes_of outcome
+
+-- the bytes of such a file, and its faults
+pub read_unknown : {V : Type 0} (bytes_of : V → List ℕ) (known : Known) (v : V) → IsAnswer bytes_of known (Ok v) → IsRead known (bytes_of v)
+read_unknown bytes_of known v is = (is.1.0, subst (λ (k : Known). IfSome k (λ file. file ≡ Some (bytes_of v))) (sym is.0) tt)
+
+pub fails_unknown : {V : Type 0} (bytes_of : V → List ℕ) (known : Known) (fault : Fault) → IsAnswer bytes_of known (Err fault) → IsFileFault known fault
+fails_unknown bytes_of known fault is = subst (λ (k : Known). IsFileFault k fault) (sym is.0) is.1.1
+
+-- nothing is known of a path if nothing is known of what was opened there
+pub unknown : (known : Known) (o : Option (List ℕ)) → IfFile known (λ bytes. o ≡ Some bytes) → o ≡ None → known ≡ None
+unknown None o opened none = refl
+unknown (Some None) o opened none = absurd opened
+unknown (Some (Some bytes)) o opened none = absurd (none-some bytes (sym none ∙ opened))
+
+-- what holds of a size holds if there is one
+pub if_sized : (size : Option ℕ) (P : Type 0) → IfSome size (λ _. P) → is_some size ≡ true → P
+if_sized None P holds some = cc
+if_sized (Some n) P holds some = holds
 
 -- a fault of a file of which something is known is one of a file of which nothing is
 less_known : (known : Known) (fault : Fault) → IsFileFault known fault → IsFileFault None fault
@@ -21,42 +40,34 @@ less_known known FileTooLarge is = tt
 less_known known NoMemory is = tt
 less_known known _ is = absurd is
 
--- the answer of a reader is that of its file
-answered : {R V : Type 0} (remaining : R → Option (List ℕ)) (bytes_of : V → List ℕ) (known : Known) (reader : R) (answer : Result V Fault)
-    → IsOpened remaining known reader → Tells remaining bytes_of reader answer → IsAnswer bytes_of known answer
-answered remaining bytes_of None reader (Ok v) opened tells = ((tells.0.0, tt), tt)
-answered remaining bytes_of None reader (Err fault) opened tells = (tt, less_known _ fault tells.1)
-answered remaining bytes_of (Some None) reader answer opened tells = absurd opened
-answered remaining bytes_of (Some (Some bytes)) reader (Ok v) opened tells =
-    let same = subst (λ o. IfSome o (λ held. bytes_of v ≡ held)) opened tells.0.1 in
-    ((tells.0.0, ap Some (sym same)), tt)
-answered remaining bytes_of (Some (Some bytes)) reader (Err fault) opened tells =
-    (tt, subst (λ o. IsFileFault (option_map Some o) fault) opened tells.1)
+-- what was read of an opened file is what is at its path
+pub read_there : (known : Known) (o : Option (List ℕ)) (bytes : List ℕ) → IfFile known (λ held. o ≡ Some held) → length bytes ≤ FILE_LIMIT
+    → IfSome o (λ held. bytes ≡ held) → IsRead known bytes
+read_there None o bytes opened few read = (few, tt)
+read_there (Some None) o bytes opened few read = absurd opened
+read_there (Some (Some held)) o bytes opened few read = (few, ap Some (sym (subst (λ o. IfSome o (λ h. bytes ≡ h)) opened read)))
 
--- what holds at each place holds place by place
-pub all_zip : {A B : Type 0} (R : A → B → Type 0) (xs : List A) (ys : List B) → length ys ≡ length xs
-    → ((i : ℕ) (d : A) (e : B) → i < length xs → R (slice_index_or xs i d) (slice_index_or ys i e)) → AllZip R xs ys
-all_zip R [] [] long each = tt
-all_zip R [] (y ∷ ys) long each = cc
-all_zip R (x ∷ xs) [] long each = cc
-all_zip R (x ∷ xs) (y ∷ ys) long each =
-    let same : length ys ≡ length xs = omega (arith, long) in
-    (each 0 x y (omega arith), all_zip R xs ys same (λ i d e h. each (suc i) d e (omega (arith, h))))
+pub fails_there : (known : Known) (o : Option (List ℕ)) (fault : Fault) → IfFile known (λ held. o ≡ Some held)
+    → IsFileFault (option_map Some o) fault → IsFileFault known fault
+fails_there None o fault opened is = less_known (option_map Some o) fault is
+fails_there (Some None) o fault opened is = absurd opened
+fails_there (Some (Some held)) o fault opened is = subst (λ o. IsFileFault (option_map Some o) fault) opened is
 
--- each file that was opened is answered
-pub all_answered : {R V : Type 0} (remaining : R → Option (List ℕ)) (bytes_of : V → List ℕ) (held : List ℕ → Known) (paths files : List (List ℕ))
-    (readers : List R) (answers : List (Result V Fault)) → AreFollowedBy (IsOpened remaining) held paths files readers
-    → AllZip (Tells remaining bytes_of) readers answers → AreFollowedBy (IsAnswer bytes_of) held paths files answers
-all_answered remaining bytes_of held [] [] [] [] before each = tt
-all_answered remaining bytes_of held [] [] [] (a ∷ more) before each = absurd each
-all_answered remaining bytes_of held [] [] (r ∷ rs) answers before each = absurd before
-all_answered remaining bytes_of held [] (f ∷ fs) readers answers before each = absurd before
-all_answered remaining bytes_of held (p ∷ ps) (f ∷ fs) readers answers before each =
-    (before.0, all_answered remaining bytes_of held ps fs readers answers before.1 each)
-all_answered remaining bytes_of held (p ∷ ps) [] [] answers before each = absurd before
-all_answered remaining bytes_of held (p ∷ ps) [] (r ∷ rs) [] before each = absurd each
-all_answered remaining bytes_of held (p ∷ ps) [] (r ∷ rs) (a ∷ more) before each =
-    (answered remaining bytes_of (held p) r a before.0 each.0, all_answered remaining bytes_of held ps [] rs more before.1 each.1)
+-- each file that was opened has an outcome
+pub all_answered : {X V : Type 0} (bytes_of : V → List ℕ) (held : List ℕ → Known) (paths files : List (List ℕ)) (opened : List X)
+    (outcomes : List (Result V Fault)) → AreFollowedBy IsUnknown held paths files opened → length outcomes ≡ length opened
+    → All (IsOutcome bytes_of) outcomes → AreFollowedBy (IsAnswer bytes_of) held paths files outcomes
+all_answered bytes_of held [] [] [] [] before long each = tt
+all_answered bytes_of held [] [] [] (o ∷ os) before long each = cc
+all_answered bytes_of held [] [] (x ∷ xs) outcomes before long each = absurd before
+all_answered bytes_of held [] (f ∷ fs) opened outcomes before long each = absurd before
+all_answered bytes_of held (p ∷ ps) (f ∷ fs) opened outcomes before long each =
+    (before.0, all_answered bytes_of held ps fs opened outcomes before.1 long each)
+all_answered bytes_of held (p ∷ ps) [] [] outcomes before long each = absurd before
+all_answered bytes_of held (p ∷ ps) [] (x ∷ xs) [] before long each = cc
+all_answered bytes_of held (p ∷ ps) [] (x ∷ xs) (o ∷ os) before long each =
+    let same : length os ≡ length xs = omega (arith, long) in
+    ((before.0, All-head (IsOutcome bytes_of) o os each), all_answered bytes_of held ps [] xs os before.1 same (All-tail (IsOutcome bytes_of) o os each))
 
 -- one more file is opened, at the next path
 next : {X : Type 0} (P : Known → X → Type 0) (held : List ℕ → Known) (paths : List (List ℕ)) (i : ℕ) (files : List (List ℕ)) (others : List X)
@@ -70,16 +81,16 @@ next P held (p ∷ ps) (suc i) [] [] path other before here now = absurd before
 next P held (p ∷ ps) (suc i) [] (o ∷ os) path other before here now = (before.0, next P held ps i [] os path other before.1 here now)
 next P held (p ∷ ps) (suc i) (f ∷ fs) others path other before here now = (before.0, next P held ps i fs others path other before.1 here now)
 
-pub opened_next : {R : Type 0} (remaining : R → Option (List ℕ)) (held now : List ℕ → Known) → now ≡ held → (paths : List (List ℕ)) (i : ℕ)
-    (files : List (List ℕ)) (readers : List R) (path : List ℕ) (reader : R) (more : List R)
-    → AreFollowedBy (IsOpened remaining) held (take i paths) files readers → slice_get paths i ≡ Some path → IsOpened remaining (now path) reader
-    → more ≡ readers ++ reader ∷ [] → AreFollowedBy (IsOpened remaining) held (take (i + 1) paths) files more
-opened_next remaining held now same paths i files readers path reader more before here opened pushed =
+pub opened_next : {X : Type 0} (held now : List ℕ → Known) → now ≡ held → (paths : List (List ℕ)) (i : ℕ)
+    (files : List (List ℕ)) (opened : List X) (path : List ℕ) (file : X) (more : List X)
+    → AreFollowedBy IsUnknown held (take i paths) files opened → slice_get paths i ≡ Some path → now path ≡ None
+    → more ≡ opened ++ file ∷ [] → AreFollowedBy IsUnknown held (take (i + 1) paths) files more
+opened_next held now same paths i files opened path file more before here none pushed =
     let after : suc i ≡ i + 1 = omega arith in
-    let this = subst (λ (h : List ℕ → Known). IsOpened remaining (h path) reader) same opened in
-    subst (λ rs. AreFollowedBy (IsOpened remaining) held (take (i + 1) paths) files rs) (sym pushed)
-    (subst (λ n. AreFollowedBy (IsOpened remaining) held (take n paths) files (readers ++ reader ∷ [])) after
-    (next (IsOpened remaining) held paths i files readers path reader before here this))
+    let this = subst (λ (h : List ℕ → Known). h path ≡ None) same none in
+    subst (λ rs. AreFollowedBy IsUnknown held (take (i + 1) paths) files rs) (sym pushed)
+    (subst (λ n. AreFollowedBy IsUnknown held (take n paths) files (opened ++ file ∷ [])) after
+    (next IsUnknown held paths i files opened path file before here this))
 
 -- the first that follows is read
 pub read_first : {X : Type 0} (P : Known → X → Type 0) (held : List ℕ → Known) (paths files : List (List ℕ)) (other : X) (others : List X)
@@ -153,3 +164,11 @@ no_memory_next P held (p ∷ ps) i [] others path before here = inl tt
 no_memory_next P held (p ∷ ps) zero (f ∷ fs) others path before here = absurd before
 no_memory_next P held (p ∷ ps) (suc i) (f ∷ fs) others path before here =
     inr (of_bytes (held p) f (λ bytes. length bytes ≤ FILE_LIMIT) before.0 before.0.0, no_memory_next P held ps i fs others path before.1 here)
+
+-- the next file is read alone, once all before it are read
+pub alone_next : {X : Type 0} (held now : List ℕ → Known) → now ≡ held → (paths : List (List ℕ)) (i : ℕ) (files more : List (List ℕ))
+    (path bytes : List ℕ) (none : List X) → AreRead held (take i paths) files → slice_get paths i ≡ Some path → IsRead (now path) bytes
+    → more ≡ files ++ bytes ∷ [] → none ≡ [] → AreFollowedBy IsUnknown held (take (i + 1) paths) more none
+alone_next held now same paths i files more path bytes none before here read pushed empty =
+    let this = subst (λ (h : List ℕ → Known). IsRead (h path) bytes) same read in
+    rw (pushed, empty) (all_read_yet IsUnknown held (take (i + 1) paths) (files ++ bytes ∷ []) (read_next held paths i files path bytes before here this))

@@ -1,5 +1,5 @@
 -- Files as the program reads them. This project's choice.
-use Rattle.std.specs.Prelude.{◌≡◌, ◌⊎◌, ◌<◌, ◌≤◌, ℕ, List, [], ◌∷◌, Option, Some, IfSome, IsSomeAnd, length}
+use Rattle.std.specs.Prelude.{◌≡◌, ◌⊎◌, ◌<◌, ◌≤◌, ℕ, List, [], ◌∷◌, Option, None, Some, IfSome, IsSomeAnd, length}
 use Rattle.rim_files.specs.declared.fault.Fault.{Fault}
 use Rattle.rim_files.specs.declared.fault.Fault.TheVariants.{FileUnreadable, FileTooLarge, NoMemory}
 use Rattle.rim_files.specs.declared.file.TheConstants.{FILE_LIMIT}
@@ -12,9 +12,13 @@ Known = Option (Option (List ℕ))
 abbrev pub IfFile : Known → (List ℕ → Type 0) → Type 0
 IfFile known P = IfSome known (λ file. IsSomeAnd file P)
 
+-- reading the file at a path may fail: nothing is known of the path, or that no file can be opened there
+abbrev pub MayFail : Known → Type 0
+MayFail known = IfSome known (λ file. file ≡ None)
+
 -- a fault of reading a file of which this is known
 abbrev pub IsFileFault : Known → Fault → Type 0
-IsFileFault known FileUnreadable = Unit {0}
+IsFileFault known FileUnreadable = MayFail known
 IsFileFault known FileTooLarge = IfFile known (λ bytes. FILE_LIMIT < length bytes)
 IsFileFault known NoMemory = Unit {0}
 IsFileFault known _ = ⊥

@@ -2,7 +2,10 @@
 ghost use Rattle.std.specs.Prelude.{◌≡◌, ◌≤◌};
 ghost use Rattle.rim_files.specs.Status.{word_of, status_of};
 
-use rim_release::{AuditFault, ManifestFault, ShowFault, StartFault};
+use rim_accepted::AuditFault;
+use rim_manifest::ManifestFault;
+use rim_pages::StartFault;
+use rim_show::ShowFault;
 
 /// Why a run fails, apart from the words of its command line.
 #[derive(Clone, Copy, Debug, PartialEq, Eq)]

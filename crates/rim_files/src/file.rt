@@ -1,29 +1,69 @@
 //! Files, opened by their paths and read whole, or saved.
-ghost use Rattle.std.specs.Prelude.{◌≡◌, ◌≢◌, ◌≤◌, ℕ, IfErr, IfOk, IfSome, List, None, OnErr, OnOk, Some, length, map, option_map, vec_len};
-ghost use Rattle.rim_files.specs.Files.{AreRead, IfFile, IsFileFault, IsFirstFault, IsRead, Known};
+ghost use Rattle.std.specs.Prelude.{◌≡◌, ◌≢◌, ◌≤◌, ℕ, IfErr, IfNone, IfOk, IfSome, List, None, OnErr, OnOk, Option, Some, length, map, option_map, vec_len};
+ghost use Rattle.rim_files.specs.Files.{AreRead, IfFile, IsFileFault, IsFirstFault, IsRead, Known, MayFail};
 ghost use Rattle.rim_files.specs.declared.file.TheConstants.{FILE_LIMIT};
 
 use crate::fault::Fault;
-use crate::patient::Patient;
-use rim_release::{Files, Release};
+use rim_accepted::Files;
+use rim_manifest::Release;
 use std::alloc::Global;
+use std::convert::AsSlice;
 use std::io;
 use std::io::{ErrorKind, Read};
 
 /// The most bytes that a file may have: 256 MiB. This project's choice.
 pub const FILE_LIMIT: u64 = 268_435_456;
 
-/// What opens and saves files by their paths.
+/// A file that was opened and has not been read. If its bytes are known, reading it fails only if it is too large or memory is refused.
+pub trait Opened: Read {
+    /// The bytes of a file that was read.
+    type Bytes: AsSlice<u8> + Drop;
+
+    /// Returns all bytes of the file, or why they cannot be read.
+    fn whole(self, alloc: Global) -> Result<Self::Bytes, Unread>
+        ensures limit { IfOk result (λ bytes. length (Self.Bytes.items bytes) ≤ FILE_LIMIT) }
+        ensures fault { IfErr result
+            (λ u. IsFileFault (option_map Some (Self.remaining self)) u.fault) }
+        ensures bytes { IfOk result
+            (λ bytes. IfSome (Self.remaining self) (λ held. Self.Bytes.items bytes ≡ held)) };
+
+    /// Returns a copy of these bytes.
+    fn copied(self, alloc: Global) -> Result<Vec<u8>, Unread>
+        ensures limit { IfOk result (λ bytes. length bytes.items ≤ FILE_LIMIT) }
+        ensures fault { IfErr result
+            (λ u. IsFileFault (option_map Some (Self.remaining self)) u.fault) }
+        ensures bytes { IfOk result
+            (λ bytes. IfSome (Self.remaining self) (λ held. bytes.items ≡ held)) };
+}
+
+impl<'a> Opened for &'a [u8] {
+    type Bytes = &'a [u8];
+
+    fn whole(self, _alloc: Global) -> Result<&'a [u8], Unread> {
+        if self.len() as u64 > FILE_LIMIT {
+            return Err(Unread::of(Fault::FileTooLarge));
+        }
+        Ok(self)
+    }
+
+    fn copied(self, alloc: Global) -> Result<Vec<u8>, Unread> {
+        let bytes = self.whole(alloc)?;
+        Vec::from_slice(alloc, bytes).map_err(|_| Unread::of(Fault::NoMemory))
+    }
+}
+
+/// Opens and saves files by their paths.
 pub trait Opener {
-    // What is known of a path: that no file can be opened there, or the bytes of the file there.
+    // What is known of a path: that no file can be opened there, or the bytes of the file there, which can be read.
     ghost held: { Self → List ℕ → Known } = { λ _ _. None };
 
-    type Reader: Read + Send + Drop;
+    type Reader: Opened + Send + Drop;
 
-    /// Opens a file for reading, or answers `None`.
+    /// Opens a file for reading. Returns `None` if no file can be opened at the path.
     fn open(&mut self, path: &str) -> Option<Self::Reader>
         ensures bytes { IfSome result (λ reader. IfFile (held self.old path.now)
             (λ bytes. Self.Reader.remaining reader ≡ Some bytes)) }
+        ensures none { IfNone result (MayFail (held self.old path.now)) }
         ensures stays { held self.new ≡ held self.old };
 
     /// Saves these bytes as the whole file at a path, which may exist. No other file changes, and after an error no file at all.
@@ -37,8 +77,11 @@ pub trait Opener {
         Err(io::Error::from(ErrorKind::Unsupported))
     }
 
-    /// How many bytes a file has that was opened and not read, where that is known. No clause speaks of it.
-    fn size(_reader: &Self::Reader) -> Option<u64> {
+    /// Returns the number of bytes of a file that was opened, if the system tells it. Nothing else is known of such a file.
+    fn size(reader: &Self::Reader) -> Option<u64>
+        ensures { IfSome result (λ _. Self.Reader.remaining reader.now ≡ None) }
+    {
+        let _ = reader;
         None
     }
 
@@ -59,7 +102,7 @@ impl Unread {
     ghost use Rattle.std.specs.Prelude.{◌≡◌};
 
     /// A fault of which nothing else is known.
-    fn of(fault: Fault) -> Unread
+    pub(crate) fn of(fault: Fault) -> Unread
         ensures { result.fault ≡ fault }
     {
         Unread {
@@ -83,7 +126,10 @@ pub fn read_files<O: Opener>(
 {
     let mut files = Vec::new(alloc);
     for i in 0..release.file_count() {
-        let bytes = read_file(alloc, opener, release.path(i))?;
+        let bytes = match copy_file(alloc, opener, release.path(i)) {
+            Ok(bytes) => bytes,
+            Err(unread) => return Err(unread.fault),
+        };
         if files.push(bytes).is_err() {
             return Err(Fault::NoMemory);
         }
@@ -91,9 +137,14 @@ pub fn read_files<O: Opener>(
     Ok(files)
 }
 
-/// The bytes of the file at a path.
-pub fn read_file<O: Opener>(alloc: Global, opener: &mut O, path: &str) -> Result<Vec<u8>, Fault>
-    ensures read { IfOk result (λ bytes. IsRead (O.held opener.old path.now) bytes.items) }
+/// Returns the bytes of the file at a path.
+pub fn read_file<O: Opener>(
+    alloc: Global,
+    opener: &mut O,
+    path: &str,
+) -> Result<<O::Reader as Opened>::Bytes, Fault>
+    ensures read { IfOk result
+        (λ bytes. IsRead (O.held opener.old path.now) (O.Reader.Bytes.items bytes)) }
     ensures fault { IfErr result (IsFileFault (O.held opener.old path.now)) }
     ensures stays { O.held opener.new ≡ O.held opener.old }
 {
@@ -103,40 +154,41 @@ pub fn read_file<O: Opener>(alloc: Global, opener: &mut O, path: &str) -> Result
     }
 }
 
-/// The same, with what the system says where the file cannot be read.
-pub fn read_or_why<O: Opener>(alloc: Global, opener: &mut O, path: &str) -> Result<Vec<u8>, Unread>
+/// Returns the bytes of the file at a path, or what the system says of a file that cannot be read.
+pub fn read_or_why<O: Opener>(
+    alloc: Global,
+    opener: &mut O,
+    path: &str,
+) -> Result<<O::Reader as Opened>::Bytes, Unread>
+    ensures read { IfOk result
+        (λ bytes. IsRead (O.held opener.old path.now) (O.Reader.Bytes.items bytes)) }
+    ensures fault { IfErr result (λ u. IsFileFault (O.held opener.old path.now) u.fault) }
+    ensures stays { O.held opener.new ≡ O.held opener.old }
+{
+    match opener.open(path) {
+        Some(file) => file.whole(alloc),
+        None => Err(unopened(opener)),
+    }
+}
+
+/// Returns a copy of the bytes of the file at a path, or what the system says of a file that cannot be read.
+pub fn copy_file<O: Opener>(alloc: Global, opener: &mut O, path: &str) -> Result<Vec<u8>, Unread>
     ensures read { IfOk result (λ bytes. IsRead (O.held opener.old path.now) bytes.items) }
     ensures fault { IfErr result (λ u. IsFileFault (O.held opener.old path.now) u.fault) }
     ensures stays { O.held opener.new ≡ O.held opener.old }
 {
     match opener.open(path) {
-        Some(reader) => read_whole(alloc, reader),
-        None => Err(Unread {
-            fault: Fault::FileUnreadable,
-            failure: opener.failure(),
-        }),
+        Some(file) => file.copied(alloc),
+        None => Err(unopened(opener)),
     }
 }
 
-/// All bytes of a reader, of which one more than the limit is read at the most.
-pub(crate) fn read_whole<R: Read + Drop>(alloc: Global, reader: R) -> Result<Vec<u8>, Unread>
-    ensures limit { IfOk result (λ bytes. length bytes.items ≤ FILE_LIMIT) }
-    ensures fault { IfErr result (λ u. IsFileFault (option_map Some (R.remaining reader)) u.fault) }
-    ensures whole { IfOk result
-        (λ bytes. IfSome (R.remaining reader) (λ held. bytes.items ≡ held)) }
+/// Returns why the last file was not opened.
+fn unopened<O: Opener>(opener: &O) -> Unread
+    ensures { result.fault ≡ Fault.FileUnreadable }
 {
-    let mut bytes = Vec::new(alloc);
-    let read = Patient::new(reader)
-        .take(FILE_LIMIT + 1)
-        .read_to_end(&mut bytes);
-    let count = bytes.as_slice().len() as u64;
-    match read {
-        Ok(_) if count <= FILE_LIMIT => Ok(bytes),
-        Ok(_) => Err(Unread::of(Fault::FileTooLarge)),
-        Err(error) if error.kind() == ErrorKind::OutOfMemory => Err(Unread::of(Fault::NoMemory)),
-        Err(error) => Err(Unread {
-            fault: Fault::FileUnreadable,
-            failure: Some(error.kind()),
-        }),
+    Unread {
+        fault: Fault::FileUnreadable,
+        failure: opener.failure(),
     }
 }

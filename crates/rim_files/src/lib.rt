@@ -8,4 +8,5 @@ mod patient;
 
 pub use at_once::read_files_at_once;
 pub use fault::Fault;
-pub use file::{FILE_LIMIT, Opener, Unread, read_file, read_files, read_or_why};
+pub use file::{FILE_LIMIT, Opened, Opener, Unread, copy_file, read_file, read_files, read_or_why};
+pub use patient::Patient;

@@ -7,7 +7,7 @@ mod saving;
 use crate::progress::Progress;
 use crate::saving::save;
 pub use rim_cli::Lanes;
-use rim_cli::{Opener, TerminalWriter, Terminals, report_unreadable, run};
+use rim_cli::{Opener, Patient, TerminalWriter, Terminals, report_unreadable, run};
 use std::fs::File;
 use std::io;
 use std::io::{Eprint, ErrorKind, IsTerminal, Write};
@@ -25,11 +25,11 @@ struct FileOpener<'a> {
 }
 
 impl Opener for FileOpener<'_> {
-    type Reader = File;
+    type Reader = Patient<File>;
 
-    fn open(&mut self, path: &str) -> Option<File> {
+    fn open(&mut self, path: &str) -> Option<Patient<File>> {
         match File::open(self.rt, path) {
-            Ok(file) => Some(file),
+            Ok(file) => Some(Patient::new(file)),
             Err(error) => {
                 self.failure = Some(error.kind());
                 None
@@ -41,8 +41,8 @@ impl Opener for FileOpener<'_> {
         save(self.rt, self.rt.alloc(), path, bytes)
     }
 
-    fn size(file: &File) -> Option<u64> {
-        let metadata = file.metadata().ok()?;
+    fn size(file: &Patient<File>) -> Option<u64> {
+        let metadata = file.reader.metadata().ok()?;
         metadata.is_file().then_some(metadata.len())
     }
 

@@ -1,5 +1,5 @@
 //! Files, readers and writers for the runs of the tests.
-use rim_cli::{FreeGate, Opener, Terminals, run};
+use rim_cli::{FreeGate, Opener, Patient, Terminals, run};
 use std::io;
 use std::io::{ErrorKind, Read, Write};
 use std::process::Abort;
@@ -150,9 +150,9 @@ impl FailingFiles {
 }
 
 impl Opener for FailingFiles {
-    type Reader = FailingReader;
+    type Reader = Patient<FailingReader>;
 
-    fn open(&mut self, path: &str) -> Option<FailingReader> {
+    fn open(&mut self, path: &str) -> Option<Patient<FailingReader>> {
         let is_failing = self.opened == self.number;
         self.opened = self.opened.saturating_add(1);
         let text: &'static [u8] = if path == "f" { &NINES } else { BOTH.as_bytes() };
@@ -161,11 +161,11 @@ impl Opener for FailingFiles {
             Failing::Read(reads, kind) if is_failing => (reads, kind),
             _ => (u8::MAX, ErrorKind::Other),
         };
-        Some(FailingReader {
+        Some(Patient::new(FailingReader {
             text,
             reads_left,
             kind,
-        })
+        }))
     }
 }
 
@@ -193,14 +193,14 @@ impl Read for InterruptedReader {
 pub struct InterruptedFiles(pub u32);
 
 impl Opener for InterruptedFiles {
-    type Reader = InterruptedReader;
+    type Reader = Patient<InterruptedReader>;
 
-    fn open(&mut self, _path: &str) -> Option<InterruptedReader> {
-        Some(InterruptedReader {
+    fn open(&mut self, _path: &str) -> Option<Patient<InterruptedReader>> {
+        Some(Patient::new(InterruptedReader {
             in_a_row: self.0,
             left: self.0,
             text: SMALLEST,
-        })
+        }))
     }
 }
 

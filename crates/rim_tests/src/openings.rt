@@ -1,6 +1,6 @@
 //! The files of a manifest are opened once each in its order, up to the first that cannot be read.
 use super::fakes::run_on;
-use rim_cli::Opener;
+use rim_cli::{Opener, Patient};
 use std::io;
 use std::io::Read;
 use std::process::Abort;
@@ -35,19 +35,19 @@ struct Zeros {
 }
 
 impl Opener for Zeros {
-    type Reader = Padded;
+    type Reader = Patient<Padded>;
 
-    fn open(&mut self, path: &str) -> Option<Padded> {
+    fn open(&mut self, path: &str) -> Option<Patient<Padded>> {
         let _ = self.opened.push_str(path);
         let _ = self.opened.push_str(" ");
         if path == "manifest.toml" {
-            return Some(Padded {
+            return Some(Patient::new(Padded {
                 text: self.manifest,
                 zeros: 0,
-            });
+            }));
         }
         let zeros = path.parse::<u64>().ok()?;
-        Some(Padded { text: b"", zeros })
+        Some(Patient::new(Padded { text: b"", zeros }))
     }
 }
 

@@ -9,8 +9,8 @@ pub loop-i-preserved : goal.loop-i-preserved
 loop-i-preserved g c =
     let before : List (List ℕ) = map (λ file. file.items) c.loop-i.files.items in
     record {
-      held = c.read_or_why.ensures.stays ∙ c.loop-i.invariant.held;
-      found = elim c.match-read_or_why.branch [
+      held = c.copy_file.ensures.stays ∙ c.loop-i.invariant.held;
+      found = elim c.match-copy_file.branch [
         | in-Ok+in_ok-map_err-in-Ok w ↦
             let pushed : w.push.new.self.items ≡ c.loop-i.files.items ++ w.in-Ok.bytes ∷ [] = search rules in
             let read = subst (λ (h : List ℕ → Known). IsRead (h c.path-path.result.now) w.in-Ok.bytes.items) c.loop-i.invariant.held w.in-Ok.ensures.read in
