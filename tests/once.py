@@ -22,8 +22,8 @@ ACCEPTING = "rim_accepted/src/accepted/accepting.rt"
 CALLS = {
     "place": [], "list": [], "place_with_reason": ["ipa_layout/src/layout.rt", ACCEPTING],
     "list_with_reason": [ACCEPTING, "rmi_list/src/listing.rt"], "granules_taken": [ACCEPTING],
-    # measuring by the program, by workers and by one thread, and one launch of it; the same by a release alone; `rim check`; `rim dtb`
-    "accept_all": ["rim_cli/src/answer.rt", "rim_cli/src/answer.rt", "rim_cli/src/rims.rt", "rim_report/src/one_thread.rt", "rim_report/src/workers.rt"],
+    # measuring by one thread and by workers; `rim check`; `rim dtb`
+    "accept_all": ["rim_report/src/one_thread.rt", "rim_report/src/workers.rt"],
     "accept": ["rim_accepted/src/devicetree.rt", "rim_accepted/src/release.rt", "rim_check/src/launches.rt"],
     # `rim audit`, `rim list` and `rim trace`; `rim map`
     "accept_with_list": [ACCEPTING, "rim_audit/src/laying_out.rt", "rim_cli/src/mapping.rt"],

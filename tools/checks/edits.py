@@ -3,7 +3,7 @@
 
     tools/checks/edits.py [NAME..]   tries the edits of all crates, or of these, whose record is out of date
     tools/checks/edits.py --all      tries every edit again
-    tools/checks/edits.py --check    status 1 if an edit cannot be made, has no record or was changed since it was tried; needs no prover
+    tools/checks/edits.py --check    status 1 if an edit cannot be made or was changed since it was tried; needs no prover
 
 `./test` tries the edits of must-fail in every run. Those of edits are tried here, because each costs a check of its crate.
 
@@ -33,6 +33,8 @@ CRATES = TOP / "crates"
 RECORD = TOP / "tools" / "checks" / "edits-tried.tsv"
 # The parts of a crate that the prover reads.
 PARTS = ("src", "specs", "proofs")
+# Whether an edit without a record is a fault of --check. It becomes one when every edit has been tried once.
+NEEDS_RECORD = False
 # What `rt ci` prints of an edit: its crate, its file and the outcome.
 LINE = re.compile(r"rt: must-fail (\w+)/([\w.-]+): (.*)")
 REFUSED = "refused, as it must be: "
@@ -139,17 +141,20 @@ def write_record(record: dict[str, Row]):
 def check() -> int:
     """Prints each edit that cannot be made or was changed since it was tried, and each record without an edit. Returns how many there are."""
     record, edits = read_record(), all_edits()
-    wrong = []
+    wrong, missing = [], 0
     for edit in edits:
         row = record.get(edit.name)
         if why := why_not_made(edit):
             wrong.append(f"{edit.name}: {why}")
         elif row and row.digest != edit.digest:
             wrong.append(f"{edit.name}: it was changed since it was tried, run tools/checks/edits.py {edit.crate}")
-        elif not row:
+        elif not row and NEEDS_RECORD:
             wrong.append(f"{edit.name}: it has no record, run tools/checks/edits.py {edit.crate}")
+        missing += not row
     known = {edit.name for edit in edits}
     wrong += [f"{name}: it has a record, and the file is gone: run tools/checks/edits.py" for name in record if name not in known]
+    if missing:
+        print(f"{missing} of {len(edits)} edits have no record yet: tools/checks/edits.py tries them")
     print(*wrong, sep="\n", end="\n" if wrong else "")
     return len(wrong)
 

@@ -5,7 +5,7 @@ use crate::job::{Job, Shape};
 use crate::manifest::manifest;
 use rim_release::{
     Files, Gate, JobId, Lanes, LoadedRelease, Unasked, audit_with_gate, listing_or_refusal,
-    measure_release, read_manifest, replay, report_alone,
+    measure_release, outcome_alone, read_manifest, replay,
 };
 use std::alloc::{AllocError, Global};
 use std::sync::Wait;
@@ -77,8 +77,8 @@ pub fn run<R: Threads + Wait + Sync>(
         }
         Job::List => listed(alloc, lanes, loaded, &mut found)?,
         Job::Guest => {
-            let report = report_alone(alloc, lanes, loaded).map_err(|_| Fault::Refused)?;
-            found.add(report.text.as_slice());
+            let outcome = outcome_alone(alloc, lanes, &release, &files);
+            found.add(outcome.map_err(|_| Fault::Refused)?.report.as_slice());
         }
         Job::Release | Job::Recs | Job::Alike => {
             let outcome = measure_release(rt, alloc, &mut gate, &release, &files, WORKERS);

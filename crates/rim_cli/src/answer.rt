@@ -1,10 +1,10 @@
 //! The answer to a request, made whole.
-ghost use Rattle.std.specs.Prelude.{◌≡◌, ◌⊎◌, ◌<◌, ◌≤◌, Err, IfErr, IfOk, IsOkAnd, Ok, Some, if◌then◌else◌, length, map, position, true};
+ghost use Rattle.std.specs.Prelude.{◌≡◌, ◌⊎◌, ◌<◌, ◌≤◌, Err, IfErr, IfOk, IsOkAnd, Ok, Some, if◌then◌else◌, length, map, position, true, vec_len};
 ghost use Rattle.sha2.specs.Sha256.{sha256};
 ghost use Rattle.ipa_layout.specs.Files.{bytes_of_files};
 ghost use Rattle.rim_accepted.specs.Lines.{has_refused, outcomes_for, seen};
 ghost use Rattle.rim_pages.specs.Pages.{page_keys};
-ghost use Rattle.rim_report.specs.Report.{measured_of};
+ghost use Rattle.rim_report.specs.Report.{is_crew, measured_of};
 ghost use Rattle.rim_words.specs.Command.{HasCrew, IsCrew};
 ghost use Rattle.rim_manifest.specs.Manifest.{manifest_of};
 ghost use Rattle.rim_show.specs.ShownDevicetree.{ShowsDevicetree};
@@ -19,17 +19,21 @@ use crate::freed::keep_freed_memory;
 use crate::mapping::map;
 use crate::replaying::replay;
 use file_digests::{Digested, digested_alone, measure_with_digests};
+use job_workers::Gate;
 use refusal::NoMemory;
+use rim_accepted::{AcceptedRelease, Files, LoadedRelease, Report, placed_devicetree};
+use rim_audit::{audit_with_gate, listing_or_refusal, trace_or_refusal};
 use rim_check::refusals;
+use rim_desc::Lanes;
 use rim_files::{Fault, Opener, read_file, read_files, read_files_at_once};
 use rim_json::json_report;
-use rim_release::{
-    AcceptedRelease, Gate, Lanes, LoadedRelease, Report, StartFault, accept_all, accepted_alone,
-    audit_with_gate, listing_or_refusal, measure_accepted, placed_devicetree, show_fdt, show_image,
-    trace_or_refusal,
-};
+use rim_manifest::Release;
+use rim_pages::StartFault;
+use rim_report::{Outcome, measure_release, outcome_alone};
+use rim_show::{show_fdt, show_image};
 use rim_words::{Ask, FileAsk, Format, LaunchAsk, ManifestAsk, Request, VERSION};
 use std::alloc::Global;
+use std::convert::AsSlice;
 use std::sync::Wait;
 use std::thread::{Threads, available_parallelism};
 
@@ -204,9 +208,12 @@ fn measure<R: Threads + Wait + Sync, G: Gate + Sync, O: Opener>(
 {
     let text = read_file(alloc, opener, path)?;
     let release = release_in(alloc, text.as_slice())?;
-    let files = read_files_at_once(rt, alloc, opener, &release, of_use(rt, workers))?;
-    let loaded = LoadedRelease::new(&release, &files);
-    let report = report(rt, alloc, gate, path, &text, loaded, workers, format, aside);
+    let workers = of_use(rt, workers);
+    let files = read_files_at_once(rt, alloc, opener, &release, workers)?;
+    let text = text.as_slice();
+    let report = report(
+        rt, alloc, gate, path, text, &release, &files, workers, format, aside,
+    );
     Ok(answer_of(report.map_err(Fault::Start)?))
 }
 
@@ -230,118 +237,125 @@ fn measure_alone<O: Opener>(
     let text = read_file(alloc, opener, path)?;
     let release = release_in(alloc, text.as_slice())?;
     let files = read_files(alloc, opener, &release)?;
-    let loaded = LoadedRelease::new(&release, &files);
-    let report = report_alone(alloc, lanes, path, &text, loaded, format, aside);
+    let text = text.as_slice();
+    let report = report_alone(alloc, lanes, path, text, &release, &files, format, aside);
     Ok(answer_of(report.map_err(Fault::Start)?))
 }
 
-/// The report of the release that a manifest describes, made by 1 to 64 workers, in a format.
+/// Returns the report of the release that a manifest describes, made by 1 to 64 workers, in a format.
 fn report<R: Threads + Wait + Sync, G: Gate + Sync>(
     rt: &R,
     alloc: Global,
     gate: &mut G,
     path: &str,
     bytes: &[u8],
-    loaded: LoadedRelease<'_>,
-    workers: u8,
+    release: &Release,
+    files: &Files,
+    workers: usize,
     format: Format,
     aside: &mut Aside,
 ) -> Result<Report, StartFault>
-    requires { IsCrew workers }
+    requires each { vec_len files.now ≡ length release.now.paths }
+    requires crew { is_crew workers ≡ true }
     ensures text { IfOk result (λ r. IsReportOf format path.now bytes.now
-        (bytes_of_files loaded.entry.files.now) loaded.entry.release.now r.text.items) }
-    ensures fault { IfErr result (λ e. (e ≡ StartFault.NoMemory) ⊎ (measured_of
-        (bytes_of_files loaded.entry.files.now) loaded.entry.release.now.launches ≡ Err e)) }
-    ensures refused { IfOk result (λ r. r.has_refused ≡ has_refused
-        (bytes_of_files loaded.entry.files.now) loaded.entry.release.now.launches) }
+        (bytes_of_files files.now.items) release.now r.text.items) }
+    ensures fault { IfErr result (λ e. (e ≡ StartFault.NoMemory)
+        ⊎ (measured_of (bytes_of_files files.now.items) release.now.launches ≡ Err e)) }
+    ensures refused { IfOk result (λ r. r.has_refused
+        ≡ has_refused (bytes_of_files files.now.items) release.now.launches) }
 {
-    let accepted = accept_all(alloc, loaded)?;
-    aside.add_refusals(&accepted);
-    let workers = of_use(rt, workers);
     match format {
         Format::Text => {
-            let outcome = measure_accepted(rt, alloc, gate, &accepted, workers)?;
-            Ok(Report {
-                text: outcome.report,
-                has_refused: outcome.has_refused,
-            })
+            let outcome = measure_release(rt, alloc, gate, release, files, workers)?;
+            Ok(report_as_text(outcome, aside))
         }
         Format::Json => {
-            let digested = measure_with_digests(rt, alloc, gate, &accepted, workers)?;
-            Ok(Report {
-                text: report_as_json(alloc, path, bytes, &accepted, &digested)?,
-                has_refused: digested.outcome.has_refused,
-            })
+            let digested = measure_with_digests(rt, alloc, gate, release, files, workers)?;
+            Ok(report_as_json(alloc, path, bytes, digested, aside)?)
         }
     }
 }
 
-/// The same report, made on the calling thread alone.
+/// Returns the same report, made on the calling thread alone.
 fn report_alone(
     alloc: Global,
     lanes: Lanes,
     path: &str,
     bytes: &[u8],
-    loaded: LoadedRelease<'_>,
+    release: &Release,
+    files: &Files,
     format: Format,
     aside: &mut Aside,
 ) -> Result<Report, StartFault>
+    requires each { vec_len files.now ≡ length release.now.paths }
     ensures text { IfOk result (λ r. IsReportOf format path.now bytes.now
-        (bytes_of_files loaded.entry.files.now) loaded.entry.release.now r.text.items) }
-    ensures fault { IfErr result (λ e. (e ≡ StartFault.NoMemory) ⊎ (measured_of
-        (bytes_of_files loaded.entry.files.now) loaded.entry.release.now.launches ≡ Err e)) }
-    ensures refused { IfOk result (λ r. r.has_refused ≡ has_refused
-        (bytes_of_files loaded.entry.files.now) loaded.entry.release.now.launches) }
+        (bytes_of_files files.now.items) release.now r.text.items) }
+    ensures fault { IfErr result (λ e. (e ≡ StartFault.NoMemory)
+        ⊎ (measured_of (bytes_of_files files.now.items) release.now.launches ≡ Err e)) }
+    ensures refused { IfOk result (λ r. r.has_refused
+        ≡ has_refused (bytes_of_files files.now.items) release.now.launches) }
 {
-    let accepted = accept_all(alloc, loaded)?;
-    aside.add_refusals(&accepted);
     match format {
         Format::Text => {
-            let outcome = accepted_alone(alloc, lanes, &accepted)?;
-            Ok(Report {
-                text: outcome.report,
-                has_refused: outcome.has_refused,
-            })
+            let outcome = outcome_alone(alloc, lanes, release, files)?;
+            Ok(report_as_text(outcome, aside))
         }
         Format::Json => {
-            let digested = digested_alone(alloc, lanes, &accepted)?;
-            Ok(Report {
-                text: report_as_json(alloc, path, bytes, &accepted, &digested)?,
-                has_refused: digested.outcome.has_refused,
-            })
+            let digested = digested_alone(alloc, lanes, release, files)?;
+            Ok(report_as_json(alloc, path, bytes, digested, aside)?)
         }
     }
 }
 
-/// The report as JSON, of what a run came to and the digests of the files.
+/// Returns the report as lines.
+fn report_as_text(outcome: Outcome<'_>, aside: &mut Aside) -> Report
+    ensures text { result.text.items ≡ outcome.entry.report.items }
+    ensures refused { result.has_refused ≡ outcome.entry.has_refused }
+{
+    aside.add_refusals(&outcome.accepted);
+    Report {
+        text: outcome.report,
+        has_refused: outcome.has_refused,
+    }
+}
+
+/// Returns the report as JSON.
 fn report_as_json(
     alloc: Global,
     path: &str,
     bytes: &[u8],
-    accepted: &AcceptedRelease<'_>,
-    digested: &Digested,
-) -> Result<Vec<u8>, NoMemory>
-    requires digests { digested.now.digests.items ≡ map sha256 accepted.now.files }
-    requires launches { map seen digested.now.outcome.launches.items
-        ≡ outcomes_for accepted.now.files accepted.now.release.launches }
-    requires pages { digested.now.outcome.pages
-        ≡ length (page_keys accepted.now.files accepted.now.release.launches) }
-    ensures { IfOk result (λ text. IsReportAsJson path.now bytes.now
-        accepted.now.files accepted.now.release text.items) }
+    digested: Digested<'_>,
+    aside: &mut Aside,
+) -> Result<Report, NoMemory>
+    requires digests { digested.digests.items ≡ map sha256 digested.outcome.accepted.files }
+    requires launches { map seen digested.outcome.launches.items ≡ outcomes_for
+        digested.outcome.accepted.files digested.outcome.accepted.release.launches }
+    requires pages { digested.outcome.pages ≡ length (page_keys
+        digested.outcome.accepted.files digested.outcome.accepted.release.launches) }
+    ensures text { IfOk result (λ r. IsReportAsJson path.now bytes.now
+        digested.entry.outcome.accepted.files digested.entry.outcome.accepted.release
+        r.text.items) }
+    ensures refused { IfOk result (λ r. r.has_refused ≡ digested.entry.outcome.has_refused) }
 {
+    let Digested { outcome, digests } = digested;
+    aside.add_refusals(&outcome.accepted);
     let program = format!(in alloc; "rim {VERSION}")?;
-    let remarks = refusals(alloc, accepted)?;
-    json_report(
+    let remarks = refusals(alloc, &outcome.accepted)?;
+    let text = json_report(
         alloc,
         &program,
         path,
         bytes,
-        accepted,
-        &digested.digests,
-        &digested.outcome.launches,
+        &outcome.accepted,
+        &digests,
+        &outcome.launches,
         &remarks,
-        digested.outcome.pages,
-    )
+        outcome.pages,
+    )?;
+    Ok(Report {
+        text,
+        has_refused: outcome.has_refused,
+    })
 }
 
 /// The listing of a manifest's launch, or its line where it is refused.

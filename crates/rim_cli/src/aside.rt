@@ -1,8 +1,7 @@
 //! What is said beside the answer to a request.
-use rim_accepted::{LaunchReason, Reasons};
+use rim_accepted::{AcceptedRelease, LaunchReason, Reasons};
 use rim_check::{MarkedLine, Remark, refusal_remark};
 use rim_manifest::NamedLaunch;
-use rim_release::AcceptedRelease;
 use std::alloc::Global;
 
 /// What is said beside an answer: the line of a manifest that a check marks; and where it is asked for, the remarks on the launches that are

@@ -4,9 +4,11 @@ ghost use Rattle.rim_manifest.specs.Manifest.{manifest_of, name_in};
 ghost use Rattle.rim_cli.specs.Done.{IsManifestFault, RefusesListing, RefusesManifest};
 ghost use Rattle.rim_files.specs.Files.{AreRead, IfFile, IsRead, Known};
 
+use rim_accepted::{Files, LoadedLaunch, LoadedRelease};
 use rim_files::{Fault, Opener, read_file, read_files};
-use rim_release::{Files, LoadedLaunch, LoadedRelease, Release, read_manifest};
+use rim_manifest::{Release, read_manifest};
 use std::alloc::Global;
+use std::convert::AsSlice;
 
 /// The release that the manifest at a path describes.
 pub(crate) fn read_release<O: Opener>(

@@ -8,8 +8,8 @@ ghost use Rattle.rim_accepted.specs.Lines.{has_refused};
 ghost use Rattle.rim_report.specs.Report.{measured_of};
 
 use crate::program::{Terminals, run};
+use job_workers::FreeGate;
 use rim_files::Opener;
-use rim_release::FreeGate;
 use std::alloc::Global;
 use std::sync::Wait;
 use std::thread::Threads;

@@ -17,10 +17,12 @@ mod rims;
 pub use answer::{Answer, answer_alone};
 pub use aside::Aside;
 pub use in_memory::measure_in_memory;
+pub use job_board::JobId;
+pub use job_workers::{FreeGate, Gate};
 pub use laws::{answers_are_printed, the_smallest_manifest_is_read};
 pub use program::{Terminals, report_unreadable, run};
-pub use rim_files::{Fault, Opener};
-pub use rim_release::{FreeGate, Gate, JobId, Lanes};
+pub use rim_desc::Lanes;
+pub use rim_files::{Fault, Opener, Patient};
 pub use rim_words::{
     Ask, CommandFault, FileAsk, Format, LaunchAsk, ManifestAsk, Request, command, examples_are_read,
 };

@@ -12,8 +12,8 @@ use crate::advice::{advise, explain_refusals, is_explained, show_mark, show_unsa
 use crate::answer::{Answer, answer_to};
 use crate::aside::Aside;
 use clap::error::ErrorKind as UsageKind;
+use job_workers::Gate;
 use rim_files::{Fault, Opener};
-use rim_release::Gate;
 use rim_words::{Ask, CommandFault, LaunchAsk, Request, command};
 use shown_text::Line;
 use std::alloc::{AllocError, Global};

@@ -5,9 +5,9 @@ ghost use Rattle.rim_cli.specs.Done.{IsRim, RefusesManifest, RefusesRim};
 ghost use Rattle.rim_files.specs.Files.{IfFile};
 
 use crate::found::read_launch;
-use rim_desc::{Algo, Measurement};
+use rim_desc::{Algo, Lanes, Measurement};
 use rim_files::{Fault, Opener};
-use rim_release::{Lanes, LoadedRelease, accept_all, accepted_alone};
+use rim_report::outcome_alone;
 use std::alloc::Global;
 
 /// A launch's Realm Initial Measurement, and the algorithm that it is by.
@@ -32,11 +32,7 @@ pub fn launch_rim<O: Opener>(
     ensures stays { O.held opener.new ≡ O.held opener.old }
 {
     let found = read_launch(alloc, opener, path, launch)?;
-    let loaded = LoadedRelease::new(&found.release, &found.files);
-    let Ok(accepted) = accept_all(alloc, loaded) else {
-        return Err(Fault::NoMemory);
-    };
-    let outcome = match accepted_alone(alloc, lanes, &accepted) {
+    let outcome = match outcome_alone(alloc, lanes, &found.release, &found.files) {
         Ok(outcome) => outcome,
         Err(fault) => return Err(Fault::Start(fault)),
     };

@@ -16,7 +16,7 @@ pub use rim_launch::{Config, Launch};
 pub use rim_manifest::{ManifestFault, NamedLaunch, Release, read_manifest};
 pub use rim_replay::{ReplayFault, refused_kind, replay};
 pub use rim_report::{
-    Outcome, StartFault, a_value_is_its_launchs_rim, accepted_alone, measure_accepted,
-    measure_alone, measure_release, report_alone, values_make_the_lines,
+    Outcome, StartFault, a_value_is_its_launchs_rim, measure_alone, measure_release, outcome_alone,
+    values_make_the_lines,
 };
 pub use rim_show::{ShowFault, show_fdt, show_image};

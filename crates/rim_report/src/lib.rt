@@ -12,7 +12,7 @@ mod report;
 mod workers;
 
 pub use laws::{a_value_is_its_launchs_rim, values_make_the_lines};
-pub use one_thread::{accepted_alone, measure_alone, report_alone};
+pub use one_thread::{measure_alone, outcome_alone};
 pub use plans::accepted_plans;
 pub use rim_pages::{DISTINCT_LIMIT, MeasuredPages, StartFault};
-pub use workers::{Outcome, measure_accepted, measure_release};
+pub use workers::{Outcome, measure_release};

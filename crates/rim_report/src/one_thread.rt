@@ -11,14 +11,14 @@ use crate::hashing::hashed;
 use crate::outcomes::{set_rims, unknown_outcomes};
 use crate::plans::accepted_plans;
 use crate::report::report;
-use crate::workers::Outcome;
-use rim_accepted::{AcceptedRelease, Files, LoadedRelease, Report, accept_all, has_refused};
+use crate::workers::{Measured, Outcome};
+use rim_accepted::{AcceptedRelease, Files, LoadedRelease, accept_all, has_refused};
 use rim_desc::Lanes;
 use rim_manifest::Release;
 use rim_pages::{StartFault, pages};
 use std::alloc::Global;
 
-/// The report of a release, made on the calling thread without waiting: a line `rim-report 1`; a line `NAME ALGO HEX`
+/// Returns the report of a release, made on the calling thread without waiting: a line `rim-report 1`; a line `NAME ALGO HEX`
 /// for each launch in the manifest's order, or `NAME refused KIND`; and a line `pages N`. This is the plain form of
 /// `measure_release`, whose report is compared with this one.
 pub fn measure_alone(alloc: Global, release: &Release, files: &Files) -> Result<Vec<u8>, StartFault>
@@ -26,35 +26,42 @@ pub fn measure_alone(alloc: Global, release: &Release, files: &Files) -> Result<
     ensures { Answers StartFault.NoMemory (λ text. text.items) result
         (measured_of (bytes_of_files files.now.items) release.now.launches) }
 {
-    let report = report_alone(alloc, Lanes::Four, LoadedRelease::new(release, files))?;
-    Ok(report.text)
+    let outcome = outcome_alone(alloc, Lanes::Four, release, files)?;
+    Ok(outcome.report)
 }
 
-/// The same report, and whether some launch in it is refused. Pages and launches go side by side in as many lanes.
-pub fn report_alone(
+/// Measures a release on the calling thread. Takes no lock and does not wait. Pages and launches are hashed side by side in as
+/// many lanes.
+pub fn outcome_alone<'a>(
     alloc: Global,
     lanes: Lanes,
-    loaded: LoadedRelease<'_>,
-) -> Result<Report, StartFault>
-    ensures text { Answers StartFault.NoMemory (λ r. r.text.items) result (measured_of
-        (bytes_of_files loaded.entry.files.now) loaded.entry.release.now.launches) }
-    ensures refused { IfOk result (λ r. r.has_refused ≡ has_refused
-        (bytes_of_files loaded.entry.files.now) loaded.entry.release.now.launches) }
+    release: &'a Release,
+    files: &'a Files,
+) -> Result<Outcome<'a>, StartFault>
+    requires { vec_len files.now ≡ length release.now.paths }
+    ensures report { Answers StartFault.NoMemory (λ o. o.report.items) result
+        (measured_of (bytes_of_files files.entry.now.items) release.entry.now.launches) }
+    ensures launches { IfOk result (λ o. map seen o.launches.items
+        ≡ outcomes_for (bytes_of_files files.entry.now.items) release.entry.now.launches) }
+    ensures accepted { IfOk result (λ o. (o.accepted.release ≡ release.entry.now)
+        × (o.accepted.files ≡ bytes_of_files files.entry.now.items)) }
+    ensures refused { IfOk result (λ o. o.has_refused
+        ≡ has_refused (bytes_of_files files.entry.now.items) release.entry.now.launches) }
+    ensures pages { IfOk result (λ o. o.pages
+        ≡ length (page_keys (bytes_of_files files.entry.now.items) release.entry.now.launches)) }
+    ensures shares { IfOk result (λ o. (o.shares.items ≡ o.pages ∷ []) × (o.started ≡ 1)) }
 {
-    let accepted = accept_all(alloc, loaded)?;
-    let outcome = accepted_alone(alloc, lanes, &accepted)?;
-    Ok(Report {
-        text: outcome.report,
-        has_refused: outcome.has_refused,
-    })
+    let accepted = accept_all(alloc, LoadedRelease::new(release, files))?;
+    let measured = accepted_alone(alloc, lanes, &accepted)?;
+    Ok(measured.with(accepted))
 }
 
-/// What one worker comes to, the caller, of a release whose launches are accepted or refused already. It takes no lock and does not wait.
-pub fn accepted_alone(
+/// Measures launches that are accepted or refused already.
+fn accepted_alone(
     alloc: Global,
     lanes: Lanes,
     accepted: &AcceptedRelease<'_>,
-) -> Result<Outcome, StartFault>
+) -> Result<Measured, StartFault>
     ensures report { Answers StartFault.NoMemory (λ o. o.report.items) result
         (measured_of accepted.now.files accepted.now.release.launches) }
     ensures launches { IfOk result (λ o. map seen o.launches.items
@@ -74,7 +81,7 @@ pub fn accepted_alone(
     set_rims(&mut outcomes, &rims);
     let text = report(alloc, accepted.launches(), &outcomes, pages.len())?;
     let count = pages.len() as u64;
-    Ok(Outcome {
+    Ok(Measured {
         report: text,
         launches: outcomes,
         has_refused: has_refused(laid_out),

@@ -31,21 +31,67 @@ use std::sync::Wait;
 use std::sync::ledger::Blank;
 use std::thread::Threads;
 
-/// What a run of workers came to.
+/// The outcome of measuring a release.
 #[derive(Drop)]
-pub struct Outcome {
+pub struct Outcome<'a> {
+    /// The launches of the release, each accepted or refused for a reason.
+    pub accepted: AcceptedRelease<'a>,
     /// The report.
     pub report: Vec<u8>,
-    /// What came of each launch, in the manifest's order.
+    /// The measurement of each launch or the fault that it is refused with, in the manifest's order.
     pub launches: Vec<Result<Measurement, AuditFault>>,
-    /// Whether some launch in it is refused.
+    /// Whether a launch is refused.
     pub has_refused: bool,
-    /// How many different pages were hashed.
+    /// The number of different pages that were hashed.
     pub pages: u64,
-    /// How many of them each worker has put.
+    /// The number of pages that each worker has put.
     pub shares: Vec<u64>,
-    /// How many workers were started. The caller is one of them.
+    /// The number of workers that were started. The caller is one of them.
     pub started: usize,
+}
+
+/// The outcome of measuring a release, without its launches.
+#[derive(Drop)]
+pub(crate) struct Measured {
+    pub report: Vec<u8>,
+    pub launches: Vec<Result<Measurement, AuditFault>>,
+    pub has_refused: bool,
+    pub pages: u64,
+    pub shares: Vec<u64>,
+    pub started: usize,
+}
+
+impl Measured {
+    ghost use Rattle.std.specs.Prelude.{◌≡◌};
+
+    /// Returns the outcome with the launches that were measured.
+    pub(crate) fn with<'a>(self, accepted: AcceptedRelease<'a>) -> Outcome<'a>
+        ensures accepted { result.accepted ≡ accepted.entry }
+        ensures report { result.report ≡ self.report }
+        ensures launches { result.launches ≡ self.launches }
+        ensures refused { result.has_refused ≡ self.has_refused }
+        ensures pages { result.pages ≡ self.pages }
+        ensures shares { result.shares ≡ self.shares }
+        ensures started { result.started ≡ self.started }
+    {
+        let Measured {
+            report,
+            launches,
+            has_refused,
+            pages,
+            shares,
+            started,
+        } = self;
+        Outcome {
+            accepted,
+            report,
+            launches,
+            has_refused,
+            pages,
+            shares,
+            started,
+        }
+    }
 }
 
 /// What each worker has put, and how many workers were started.
@@ -55,28 +101,30 @@ struct Counted {
     started: usize,
 }
 
-/// The report of a release, made by 1 to 64 workers. It is the one that `measure_alone` makes, in whatever order the
+/// Measures a release with 1 to 64 workers. The report is the one that `measure_alone` makes, in whatever order the
 /// workers come to their jobs. All memory is taken before the first worker is started, and from then on nothing is
 /// refused. Of that the clause `unstarted` says that after a fault the gate is as it was, so it was lent to no run; that
 /// there is no run with another gate is read in the code. The run does without a worker that cannot be started.
-pub fn measure_release<G: Gate + Sync, R: Threads + Wait + Sync>(
+pub fn measure_release<'a, G: Gate + Sync, R: Threads + Wait + Sync>(
     rt: &R,
     alloc: Global,
     gate: &mut G,
-    release: &Release,
-    files: &Files,
+    release: &'a Release,
+    files: &'a Files,
     workers: usize,
-) -> Result<Outcome, StartFault>
+) -> Result<Outcome<'a>, StartFault>
     requires { vec_len files.now ≡ length release.now.paths }
-    ensures report { Answers StartFault.NoMemory (λ o. o.report.items) result
-        (started_of workers (bytes_of_files files.now.items) release.now.launches) }
+    ensures report { Answers StartFault.NoMemory (λ o. o.report.items) result (started_of workers
+        (bytes_of_files files.entry.now.items) release.entry.now.launches) }
     ensures launches { IfOk result (λ o. map seen o.launches.items
-        ≡ outcomes_for (bytes_of_files files.now.items) release.now.launches) }
+        ≡ outcomes_for (bytes_of_files files.entry.now.items) release.entry.now.launches) }
+    ensures accepted { IfOk result (λ o. (o.accepted.release ≡ release.entry.now)
+        × (o.accepted.files ≡ bytes_of_files files.entry.now.items)) }
     ensures workers { is_crew workers ≡ false → result ≡ Err StartFault.Workers }
-    ensures refused { IfOk result
-        (λ o. o.has_refused ≡ has_refused (bytes_of_files files.now.items) release.now.launches) }
-    ensures pages { IfOk result
-        (λ o. o.pages ≡ length (page_keys (bytes_of_files files.now.items) release.now.launches)) }
+    ensures refused { IfOk result (λ o. o.has_refused
+        ≡ has_refused (bytes_of_files files.entry.now.items) release.entry.now.launches) }
+    ensures pages { IfOk result (λ o. o.pages
+        ≡ length (page_keys (bytes_of_files files.entry.now.items) release.entry.now.launches)) }
     ensures shares { IfOk result
         (λ o. (vec_len o.shares ≡ workers) × (sum o.shares.items ≡ o.pages)) }
     ensures started { IfOk result (λ o. (1 ≤ o.started) × (o.started ≤ workers)) }
@@ -86,17 +134,18 @@ pub fn measure_release<G: Gate + Sync, R: Threads + Wait + Sync>(
         return Err(StartFault::Workers);
     }
     let accepted = accept_all(alloc, LoadedRelease::new(release, files))?;
-    measure_accepted(rt, alloc, gate, &accepted, workers)
+    let measured = measure_accepted(rt, alloc, gate, &accepted, workers)?;
+    Ok(measured.with(accepted))
 }
 
-/// The same of a release whose launches are accepted or refused already.
-pub fn measure_accepted<G: Gate + Sync, R: Threads + Wait + Sync>(
+/// Measures launches that are accepted or refused already.
+fn measure_accepted<G: Gate + Sync, R: Threads + Wait + Sync>(
     rt: &R,
     alloc: Global,
     gate: &mut G,
     accepted: &AcceptedRelease<'_>,
     workers: usize,
-) -> Result<Outcome, StartFault>
+) -> Result<Measured, StartFault>
     requires crew { is_crew workers ≡ true }
     ensures report { Answers StartFault.NoMemory (λ o. o.report.items) result
         (started_of workers accepted.now.files accepted.now.release.launches) }
@@ -126,7 +175,7 @@ pub fn measure_accepted<G: Gate + Sync, R: Threads + Wait + Sync>(
         &mut rims,
     )?;
     let filled = pending_report.fill(accepted.launches(), &rims, pages.len());
-    Ok(Outcome {
+    Ok(Measured {
         report: filled.text,
         launches: filled.outcomes,
         has_refused: has_refused(accepted.outcomes()),

@@ -41,7 +41,7 @@ pub fn seen<R: Threads + Wait + Sync + Print + AllocGlobal>(
         }
         ReleaseCall::ByWorkers => by_workers(trial, &release, &files, true),
         ReleaseCall::NoWaiting => by_workers(trial, &release, &files, false),
-        ReleaseCall::WithDigests => with_digests(trial, loaded),
+        ReleaseCall::WithDigests => with_digests(trial, &release, &files),
         ReleaseCall::JsonReport => as_json(trial, text, loaded),
         ReleaseCall::AuditReport =>
             tried!(trial, audit_report(alloc, &release, &files) => text_digest, NoMemory),
@@ -228,14 +228,16 @@ fn by_workers<R: Threads + Wait + Sync + Print + AllocGlobal>(
 /// A run of three workers that hash the files too. Where memory is refused no worker has begun.
 fn with_digests<R: Threads + Wait + Sync + Print + AllocGlobal>(
     trial: &Trial<'_, R>,
-    loaded: LoadedRelease<'_>,
-) -> Result<Seen, Fault> {
+    release: &Release,
+    files: &Files,
+) -> Result<Seen, Fault>
+    requires { vec_len files.now ≡ length release.now.paths }
+{
     let (rt, alloc) = (trial.rt, trial.rt.alloc());
-    let accepted = accept_all(alloc, loaded)?;
     let mut gate = Counting::new(true);
     match made!(
         trial,
-        measure_with_digests(rt, alloc, &mut gate, &accepted, WORKERS)
+        measure_with_digests(rt, alloc, &mut gate, release, files, WORKERS)
     ) {
         Ok(digested) => {
             let started = digested.outcome.started;
@@ -249,7 +251,7 @@ fn with_digests<R: Threads + Wait + Sync + Print + AllocGlobal>(
 }
 
 /// A digest of a report and of the files' digests.
-fn digested_digest(digested: &Digested) -> u64 {
+fn digested_digest(digested: &Digested<'_>) -> u64 {
     let mut value = outcome_digest(&digested.outcome);
     for file in &digested.digests {
         value = value.rotate_left(1) ^ digest(file);
@@ -258,7 +260,7 @@ fn digested_digest(digested: &Digested) -> u64 {
 }
 
 /// A digest of a report; 0 where the shares do not add up to the pages.
-fn outcome_digest(outcome: &Outcome) -> u64 {
+fn outcome_digest(outcome: &Outcome<'_>) -> u64 {
     let mut sum = 0_u64;
     for share in &outcome.shares {
         sum = sum.wrapping_add(*share);

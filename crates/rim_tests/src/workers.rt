@@ -144,17 +144,42 @@ impl Gate for Hold {
     }
 }
 
+/// The part of an outcome that does not borrow its release.
+#[derive(Drop)]
+struct Ran {
+    report: Vec<u8>,
+    has_refused: bool,
+    pages: u64,
+    shares: Vec<u64>,
+    started: usize,
+}
+
 /// The run of this many workers on a manifest, all of whose files are the same.
 fn measured<G: Gate + Sync>(
     rt: &(impl AllocGlobal + Threads + Wait + Sync),
     gate: &mut G,
     manifest: &[u8],
     workers: usize,
-) -> Result<Outcome, Fail> {
+) -> Result<Ran, Fail> {
     let alloc = rt.alloc();
     let release = read_manifest(alloc, manifest)?;
     let files = vec![in alloc; NINES.to_vec(alloc)?; release.file_count()]?;
-    Ok(measure_release(rt, alloc, gate, &release, &files, workers)?)
+    let outcome = measure_release(rt, alloc, gate, &release, &files, workers)?;
+    let Outcome {
+        report,
+        has_refused,
+        pages,
+        shares,
+        started,
+        ..
+    } = outcome;
+    Ok(Ran {
+        report,
+        has_refused,
+        pages,
+        shares,
+        started,
+    })
 }
 
 /// The report of the same manifest by one thread.

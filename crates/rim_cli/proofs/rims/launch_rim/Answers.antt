@@ -1,8 +1,7 @@
-use Rattle.std.proofs.Common.{◌≡◌, ◌∙◌, ℕ, List, ap, ap₂, inr, map}
+use Rattle.std.proofs.Common.{◌≡◌, ◌∙◌, ℕ, List, ap, inr, map}
 use Rattle.std.specs.Prelude.{Ok, Err, Result}
 use Rattle.ipa_layout.specs.Files.{bytes_of_files}
 use Rattle.rim_desc.specs.declared.measurement.Measurement.{Measurement}
-use Rattle.rim_manifest.specs.Launches.{ReleaseData}
 use Rattle.rim_launch.specs.LaunchData.{LaunchData}
 use Rattle.rim_launch.specs.declared.config.Config.{Config}
 use Rattle.rim_accepted.specs.Accepted.{rim_for}
@@ -20,11 +19,9 @@ returns-in-Ok-index-clause-rim g c =
     let held : List ℕ → Known = g.O.Opener.held c.args.opener.now in
     let found = c.in_ok-found.found in
     let own = c.loaded.result in
-    let outcomes : List (Result Measurement AuditFault) = c.in-Ok-accepted_alone.outcome.launches.items in
+    let outcomes : List (Result Measurement AuditFault) = c.in-Ok.outcome.launches.items in
     let same : map seen outcomes ≡ outcomes_for (bytes_of_files found.files.items) found.release.launches
-    = c.in-Ok-accepted_alone.ensures.launches
-    ∙ ap₂ outcomes_for (c.in-Ok.ensures.files ∙ ap bytes_of_files c.new-loaded.ensures.files)
-    (ap (λ (r : ReleaseData). r.launches) (c.in-Ok.ensures.release ∙ c.new-loaded.ensures.release)) in
+    = c.in-Ok.ensures.launches in
     let is = rim_at (bytes_of_files found.files.items) found.release.launches outcomes found.number own.launch.now c.index.result.now same found.there
     c.loaded.ensures.launch c.index.ensures in
     of_release (held c.args.path.now) found.release (λ r. IsRim held r c.args.launch.now (record { algo = c.config-algo.result.algo; rim = c.in-Ok-index.rim }))
@@ -39,11 +36,9 @@ returns-clause-refused g c =
     let held : List ℕ → Known = g.O.Opener.held c.args.opener.now in
     let found = c.in_ok-found.found in
     let own = c.loaded.result in
-    let outcomes : List (Result Measurement AuditFault) = c.in-Ok-accepted_alone.outcome.launches.items in
+    let outcomes : List (Result Measurement AuditFault) = c.in-Ok.outcome.launches.items in
     let same : map seen outcomes ≡ outcomes_for (bytes_of_files found.files.items) found.release.launches
-    = c.in-Ok-accepted_alone.ensures.launches
-    ∙ ap₂ outcomes_for (c.in-Ok.ensures.files ∙ ap bytes_of_files c.new-loaded.ensures.files)
-    (ap (λ (r : ReleaseData). r.launches) (c.in-Ok.ensures.release ∙ c.new-loaded.ensures.release)) in
+    = c.in-Ok.ensures.launches in
     let is = rim_at (bytes_of_files found.files.items) found.release.launches outcomes found.number own.launch.now c.index.result.now same found.there
     c.loaded.ensures.launch c.index.ensures in
     let fault = c.in-Err-index.fault in

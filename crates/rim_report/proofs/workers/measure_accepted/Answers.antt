@@ -1,9 +1,8 @@
 use Rattle.std.specs.Prelude.{is_err}
 use Rattle.std.specs.List.{Contains, list_any}
-use Rattle.std.proofs.Common.{◌≡◌, ◌∙◌, ℕ, List, ap, ap₂, arith, length, map, rules, subst, sym, true, Ok, Result}
+use Rattle.std.proofs.Common.{◌≡◌, ◌∙◌, ℕ, List, ap, ap₂, arith, length, map, subst, sym, true, Ok, Result}
 use Rattle.std.specs.List.{All}
 use Rattle.std.proofs.lemmas.List.{length-map}
-use Rattle.ipa_layout.specs.Files.{bytes_of_files}
 use Rattle.page_jobs.specs.Key.{IsRising}
 use Rattle.page_jobs.specs.Page.{page_view}
 use Rattle.page_jobs.specs.Table as table
@@ -11,12 +10,11 @@ use Rattle.page_jobs.specs.declared.page.Page.{Page}
 use Rattle.launch_plan.specs.Links.{PlanView, keys_of}
 use Rattle.launch_plan.specs.Rows.{value_in}
 use Rattle.rim_desc.specs.declared.measurement.Measurement.{Measurement}
-use Rattle.rim_manifest.specs.Launches.{ReleaseData}
-use Rattle.rim_accepted.specs.Lines.{has_refused, lines_with, outcomes_for, seen}
+use Rattle.rim_accepted.specs.Lines.{lines_with, seen}
 use Rattle.rim_accepted.specs.Outcomes.{IsLaidOut, OutcomesView}
 use Rattle.rim_accepted.specs.declared.audit_fault.AuditFault.{AuditFault}
 use Rattle.rim_accepted.proofs.OutcomesInTurn.{refused-are}
-use Rattle.rim_report.specs.Report.{is_crew, measured_of, report_with}
+use Rattle.rim_report.specs.Report.{is_crew, report_with}
 use Rattle.rim_report.specs.inside.Unknown.{unknown_outcome, with_rims}
 use Rattle.page_jobs.specs.declared.page.PageKey.{PageKey}
 use Rattle.rim_report.proofs.ChainsAreRims.{all-known, found-keys, outcomes-is, report-is, rising-pages}
