@@ -13,9 +13,9 @@ use rim_desc::{Lanes, Measurement};
 use rim_json::json_report;
 use rim_map::{RefusedLaunch, map_json, map_text, refused_json, refused_text};
 use rim_release::{
-    AcceptedRelease, AuditFault, Files, Gate, JobId, LoadedLaunch, LoadedRelease, Outcome, Release,
-    Report, StartFault, Unasked, accept_all, audit, audit_report, listing, measure_alone,
-    measure_release, placed_devicetree, read_manifest, trace_or_refusal,
+    AuditFault, Files, Gate, JobId, LoadedLaunch, LoadedRelease, Outcome, Release, Report,
+    StartFault, Unasked, audit, audit_report, listing, measure_alone, measure_release,
+    placed_devicetree, read_manifest, trace_or_refusal,
 };
 use shown_text::{Remark, Word};
 use std::alloc::{AllocError, Global};
@@ -42,7 +42,7 @@ pub fn seen<R: Threads + Wait + Sync + Print + AllocGlobal>(
         ReleaseCall::ByWorkers => by_workers(trial, &release, &files, true),
         ReleaseCall::NoWaiting => by_workers(trial, &release, &files, false),
         ReleaseCall::WithDigests => with_digests(trial, &release, &files),
-        ReleaseCall::JsonReport => as_json(trial, text, loaded),
+        ReleaseCall::JsonReport => as_json(trial, text, &release, &files),
         ReleaseCall::AuditReport =>
             tried!(trial, audit_report(alloc, &release, &files) => text_digest, NoMemory),
         ReleaseCall::CheckLaunches =>
@@ -124,25 +124,23 @@ fn mapped<R: Print + AllocGlobal>(
 fn as_json<R: Threads + Wait + Sync + Print + AllocGlobal>(
     trial: &Trial<'_, R>,
     manifest: &[u8],
-    loaded: LoadedRelease<'_>,
-) -> Result<Seen, Fault> {
+    release: &Release,
+    files: &Files,
+) -> Result<Seen, Fault>
+    requires { vec_len files.now ≡ length release.now.paths }
+{
     let alloc = trial.rt.alloc();
-    let accepted = accept_all(alloc, loaded)?;
     let gate = &mut Counting::new(true);
-    let Ok(digested) = measure_with_digests(trial.rt, alloc, gate, &accepted, 1) else {
+    let Ok(digested) = measure_with_digests(trial.rt, alloc, gate, release, files, 1) else {
         return Err(Fault::Input);
     };
-    tried!(trial, reported(alloc, manifest, &accepted, &digested) => text_digest, NoMemory)
+    tried!(trial, reported(alloc, manifest, &digested) => text_digest, NoMemory)
 }
 
-fn reported(
-    alloc: Global,
-    manifest: &[u8],
-    accepted: &AcceptedRelease<'_>,
-    digested: &Digested,
-) -> Result<Vec<u8>, NoMemory>
-    requires { digested.now.digests.items ≡ map sha256 accepted.now.files }
+fn reported(alloc: Global, manifest: &[u8], digested: &Digested<'_>) -> Result<Vec<u8>, NoMemory>
+    requires { digested.now.digests.items ≡ map sha256 digested.now.outcome.accepted.files }
 {
+    let accepted = &digested.outcome.accepted;
     let remarks = refusals(alloc, accepted)?;
     json_report(
         alloc,
