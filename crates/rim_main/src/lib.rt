@@ -25,6 +25,8 @@ struct FileOpener<'a> {
 }
 
 impl Opener for FileOpener<'_> {
+    ghost use Rattle.std.specs.Prelude.{◌≡◌, ℕ, IfSome, List, None, Option};
+
     type Reader = Patient<File>;
 
     fn open(&mut self, path: &str) -> Option<Patient<File>> {
@@ -41,7 +43,9 @@ impl Opener for FileOpener<'_> {
         save(self.rt, self.rt.alloc(), path, bytes)
     }
 
-    fn size(file: &Patient<File>) -> Option<u64> {
+    fn size(file: &Patient<File>) -> Option<u64>
+        ensures { IfSome result (λ _. let unknown : Option (List ℕ) = None in unknown ≡ None) }
+    {
         let metadata = file.reader.metadata().ok()?;
         metadata.is_file().then_some(metadata.len())
     }
