@@ -168,7 +168,7 @@ BODIES = [
         [
             (
                 "            measure(rt, alloc, gate, opener, path, workers, format, aside)\n",
-                "            let _ = gate;\n            measure(rt, alloc, &mut rim_release::FreeGate, opener, path, workers, format, aside)\n",
+                "            let _ = gate;\n            measure(rt, alloc, &mut job_workers::FreeGate, opener, path, workers, format, aside)\n",
             )
         ],
         "rim_tests::workers",
