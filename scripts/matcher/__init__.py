@@ -4,7 +4,7 @@ words       the words of a command line
 launch      a launch: its table, and the text of that
 manifests   the manifests that are given
 files       the files of launches: of manifests, named beside them, and made here
-trees       devicetrees for other launches, written anew
+trees       devicetrees of changed launches, written by `outside.trees`
 begins      where a kernel and REC 0 begin, as `rim` says
 dumps       devicetrees that QEMU makes anew by changed words
 lines       the lines of a manifest by which two launches differ

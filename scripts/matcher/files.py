@@ -10,7 +10,8 @@ from typing import Any, Protocol
 
 from outside import files
 from outside.faults import Fault
-from outside.rim import Image, Rim, Tree, image_of, tree_of
+from outside.rim import Image, Rim, image_of, tree_of
+from outside.trees import Draft, Flat
 
 # The most bytes of a file that `rim` reads, and how many bytes of files that were made are kept on the disk.
 MOST, MOST_MADE = 256 << 20, 1 << 30
@@ -23,14 +24,6 @@ class Blob:
     image: Image | None     # None where it is no arm64 Image
     about: str = ""         # of a file that is none of the manifest: what it is
     is_made: bool = False   # whether it is one that was made here
-
-
-@dataclass(frozen=True)
-class Flat:
-    """A devicetree: its bytes, and what `rim fdt` says of them."""
-
-    data: bytes
-    tree: Tree
 
 
 @dataclass
@@ -57,7 +50,7 @@ class Files(dict[str, Blob]):
         self.of_changes: dict[object, str | None] = {}
         self.of_begins: dict[object, Any] = {}     # with what REC 0 begins: see begins
         self.flats: dict[str, Flat | None] = {}
-        self.drafts: dict[str, Any] = {}           # trees to change: see trees
+        self.drafts: dict[str, Draft | None] = {}  # trees to change: see trees
         self.made_bytes, self.is_full = 0, False
         self.dumper: Maker | None = None
 

@@ -10,6 +10,7 @@ from collections.abc import Callable, Iterator
 from dataclasses import replace
 
 from outside.texts import quoted
+from outside.trees import MOST_PROCESSORS
 
 from . import begins, trees
 from .files import MOST, Files
@@ -151,7 +152,7 @@ def more_recs(launch: Launch, count: int, is_off: bool) -> tuple[Rec, ...]:
 def processors(launch: Launch, files: Files) -> Changes:
     """Another number of processors, in the devicetree and of RECs."""
     here = len(launch.rec)
-    for count in dict.fromkeys((1, 2, 4, 8, here + 1, here - 1, *range(1, trees.MOST_PROCESSORS + 1))):
+    for count in dict.fromkeys((1, 2, 4, 8, here + 1, here - 1, *range(1, MOST_PROCESSORS + 1))):
         changed = trees.with_processors(launch, files, count) if count != here else None
         if changed is None:
             continue

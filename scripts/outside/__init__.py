@@ -11,5 +11,6 @@ cbor        CBOR of somebody else, read strictly
 parameters  the numbers of a realm that are measured, a row each
 measurement a measurement that a machine has, in the forms of tokens
 rim         what `rim` says of an Image and of a devicetree
+trees       the devicetree of another launch, as QEMU writes it
 ending      how a script ends
 """
