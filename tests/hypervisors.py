@@ -8,6 +8,7 @@
 - Command lines as people have them: those of tests/lines, each with the launch that was worked out by hand beside it; and those of libvirt's own tests.
 - Random command lines: `check` has no warning about their manifests.
 - Places: addresses that were worked out by hand from docs/VMM.md, of each hypervisor.
+- Devicetrees that are derived from dumps: of random lines the bytes that QEMU writes, if qemu-system-aarch64 is here; and each reason why none is.
 - Options, names, matrices, more than 64 files, a folder that is moved, an installed rim-manifest.
 - --force: what it replaces, what it keeps, where it refuses, and what a stop at each step leaves.
 - A guest that runs beside a dump; programs that misbehave; signals; full disks; FIFOs.
@@ -23,7 +24,7 @@ import sys
 from collections.abc import Callable, Iterator
 
 from helpers.tries import PROCESSORS, Outcome, at_a_time, program_of, told, tried
-from rim_manifest import forced, hostile, lines, options, places, stops, tables, whole
+from rim_manifest import derived, forced, hostile, lines, options, places, stops, tables, whole
 
 # The tries that are a function each, which is given the program.
 LOOKS = (lines.as_a_shell, lines.variables, lines.known, whole.pasted, whole.machine_recorded, whole.one_step, whole.of_realm, whole.explained, whole.long_names, whole.matrix, whole.measured, forced.forced,
@@ -40,6 +41,7 @@ def all_stops() -> list[Outcome]:
 def all_tries(program: str) -> Iterator[tuple[str, Callable[[], list[str]]]]:
     for name, words, look, *rest in options.OPTIONS:
         yield f"option: {name}", lambda each=(words, look, *rest): options.option(program, *each)
+    yield from derived.tries(program)
     yield from places.places(program)
     yield from lines.lines(program)
     for look in LOOKS:

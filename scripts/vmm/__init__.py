@@ -18,6 +18,7 @@ qemu_words, kvmtool_words, cloud_hypervisor_words   what each of its words does,
 realm               a launch as a manifest has it, by its places and the alternatives
 launches            a launch for each combination; groups of launches for each manifest
 dumps               devicetrees: made by the hypervisor's program, or handed in
+derived             devicetrees of other launches than those that a dump fits
 checks              the five checks of a launch against its devicetree
 manifest            the text of a manifest
 folder              the folder that is written, whole or not at all, and what `--force` replaces in one

@@ -1,4 +1,4 @@
-"""Devicetrees: made by the hypervisor's program, or handed in. None is made up, and none is edited but for the method of PSCI."""
+"""Devicetrees: made by the hypervisor's program, or handed in. None is edited here but for the method of PSCI; `derived` has the others."""
 import concurrent.futures
 import hashlib
 import os
@@ -50,16 +50,30 @@ class Written:
 
 
 @dataclass(frozen=True)
+class Derived:
+    """The dump from which a devicetree is derived: its path, its digest and the launch that it fits; and what is changed."""
+
+    path: str
+    sha256: str
+    launch: str
+    changed: tuple[str, ...]
+
+    def __str__(self) -> str:
+        return f'derived from "{visible(self.path)}", the devicetree of launch {self.launch}, with another {" and ".join(self.changed)}'
+
+
+@dataclass(frozen=True)
 class Dump(Written):
     """A devicetree as it is loaded, what a fault calls it, what it says, and the path or the words by which it is called; `is_own`: whether
     it is a file that the hypervisor is given, and no longer one that it makes; `of_realm`: the same with `smc` as the method of PSCI, if a
-    plain guest's method is all that it has."""
+    plain guest's method is all that it has; `derived`: from which dump it is derived, if it is."""
 
     path: str
     tree: Tree
     source: str
     is_own: bool = False
     of_realm: "Dump | None" = None
+    derived: "Derived | None" = None
 
     def by(self, psci: str) -> "Dump":
         """Returns the devicetree by an alternative of the row psci."""

@@ -27,6 +27,9 @@ class Facts:
     unpacks_gzip: bool = False
     zboot: dict[str, tuple[int, int]] = field(default_factory=dict)     # by which packing, since which version it unpacks an EFI zboot
     host_needs: dict[str, str] = field(default_factory=dict)            # keys that the host's file has to have for it, and why
+    dumped_by: str = ""                         # the program from whose devicetrees others are derived, if any are
+    # why the devicetree of the second guest is not derived from that of the first, or nothing; the words are the other ones of a dump
+    why_not_derived: Callable[[Guest, Guest, list[str]], str] = lambda old, new, kept: ""
 
 
 @dataclass(frozen=True)

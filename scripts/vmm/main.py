@@ -54,9 +54,14 @@ def rules_of(vmm: Hypervisor) -> str:
     return layout.SURE + layout.shown(vmm.TABLE) + firmware + "\n\n" + sorting.shown_table(vmm.GRAMMAR.table)
 
 
+# What --explain prints of a dump that is handed in.
+OF_A_DUMP = "the devicetree of each launch that it fits; those of other launches are derived from it if each byte of them is known"
+
+
 def explain(vmm: Hypervisor, what: Asked) -> int:
     """Prints what each word of a command line does, and refuses those that a launch cannot be made of."""
     lines = [(effect.value, text, why) for text, effect, why in what.others.explained()]
+    lines += [("dump", f"--dtb {visible(path)}", OF_A_DUMP) for path in what.said.get("dtb", []) if vmm.FACTS.dumped_by]
     if "approximate_cpu" in what.said:
         machine, cpu = vmm.read_machine(what.said)[0].text, vmm.read_cpu(what.said)[0].text
         like = vmm.approximated(machine, cpu, what.others.kept, what.said["approximate_cpu"])

@@ -26,8 +26,30 @@ BASE = 0x4000_0000
 DTB_ALIGN = 2 * MIB
 BOOT = "hw/arm/boot.c of QEMU 7.2, 10.0 and 10.2"
 VIRT = "hw/arm/virt.c of QEMU 7.2, 10.0 and 10.2"
+# Where the windows after RAM begin, unless RAM ends later.
+WINDOWS_AT = 256 * GIB
+
+
+def why_not_derived(old: Guest, new: Guest, kept: list[str]) -> str:
+    """Returns why the devicetree of a guest is not derived from that of another one, or nothing; `kept` are the other words of a dump."""
+    words, is_numa = machine_words(new.machine.text), any(given.name == "-numa" for given, _ in GRAMMAR.each(kept))
+    if (old.machine.text, old.cpu.text) != (new.machine.text, new.cpu.text):
+        return "it is of another -machine or -cpu"
+    if is_numa and (old.memory.words, old.smp.words) != (new.memory.words, new.smp.words):
+        return "-numa parts RAM and processors among nodes"
+    if old.memory.size != new.memory.size and "memory-backend" in words:
+        return "memory-backend= of -machine has one size"
+    if old.memory.words != new.memory.words and max(top(old), top(new)) > WINDOWS_AT:
+        return "RAM with the room for slots ends past 256 GiB, and moves windows of devices"
+    if old.smp.words == new.smp.words:
+        return ""
+    if not (old.smp.words.isdigit() and new.smp.words.isdigit()):
+        return "-smp has words beside the number of processors"
+    return "" if "gic-version" in words else "the interrupt controller may depend on the number of processors without gic-version="
+
+
 FACTS = Facts(DTB_ALIGN, ends_after_dump=True, dtb_length=MIB, no_seeds="dtb-randomness=off", gic_3="gic-version=3", hands_over=True,
-              unpacks_gzip=True, zboot={"gzip": (10, 0), "zstd": (11, 1)})
+              unpacks_gzip=True, zboot={"gzip": (10, 0), "zstd": (11, 1)}, dumped_by="qemu-system-aarch64", why_not_derived=why_not_derived)
 # ldr x0, dtb; mov x1, xzr; mov x2, xzr; mov x3, xzr; ldr x4, kernel; br x4; then the two addresses
 STUB = (0x580000C0, 0xAA1F03E1, 0xAA1F03E2, 0xAA1F03E3, 0x58000084, 0xD61F0080)
 # The windows after RAM, in their order: the word that has one off, and its size.
@@ -130,7 +152,7 @@ def highest(guest: Guest, bits: int) -> int:
     if end > 1 << bits:
         raise Fault(f"-m: {shown(guest.memory.words)}: RAM, and room for slots, is up to {end:#x}, and QEMU stops where that is past "
                     f"{bits} bits, which is what highmem and the host's s2sz_max leave; expected less RAM")
-    place, compact = max(end, 256 * GIB), is_compact(guest.machine.text, words)
+    place, compact = max(end, WINDOWS_AT), is_compact(guest.machine.text, words)
     for key, length in sizes.items():
         start = up(place, length)
         fits = start + length <= 1 << bits

@@ -41,7 +41,8 @@ COMMON = [
            "the row hash", True),
     Option(("--host",), "host", "FILE", f"what only the machine knows: {example()} explains it. Required"),
     Option(("--dtb",), "dtb", "FILE", "a devicetree as the hypervisor loads it, which is placed as it is. Of several, each launch takes "
-           "the one that fits it", True),
+           "the one that fits it. Those of QEMU that fit some launches become the devicetrees of others, byte for byte as QEMU writes them: with "
+           "other RAM, command lines and initrds, and with other numbers of processors if two dumps show the step", True),
     Option(("--row",), "row", "ROW=ALTERNATIVE", "the alternative of a row that a realm may change, such as ram=each; --rules prints the rows "
            "with their alternatives. It takes the place of what the table [realm] of the host's file says, and without both it is the "
            "likeliest", True),

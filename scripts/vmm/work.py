@@ -5,14 +5,14 @@ import hashlib
 import os
 import shutil
 from collections.abc import Callable, Mapping
-from dataclasses import replace
+from dataclasses import asdict, replace
 
 from outside import ending, files, parameters, programs
 from outside.faults import Fault, WrongWords
 from outside.rim import REPORT, Rim, started
 from outside.texts import shown, visible
 
-from . import asked, checks, dumps, host, image, launches, layout, manifest, measure, names, realm, settle, sorting, ways, words
+from . import asked, checks, derived, dumps, host, image, launches, layout, manifest, measure, names, realm, settle, sorting, ways, words
 from .asked import Asked
 from .folder import Folder
 from .guest import PAGE, Blob, up
@@ -64,10 +64,12 @@ def tree_blob(made: Folder, launch: Launch, dumped: dumps.Dump, taken: Mapping[s
             raise Fault(f"{dump.path}: there is something after its blocks, expected zeros for --dtb-pages used")
     if key not in known:
         name = f"dtb-{len(known) + 1}"
-        origin = f"copied from \"{dump.path}\"" if is_handed_in else f"made for launch {launch.name}"
+        origin = f"made for launch {launch.name}, {dumped.derived}" if dumped.derived else f"made for launch {launch.name}"
+        is_copied = is_handed_in and not dumped.derived
+        origin = f"copied from \"{dump.path}\"" if is_copied else origin
         origin += ", with the psci method \"smc\" in the place of \"hvc\"" * (dump is not dumped)
-        source = hashlib.sha256(dumped.data).hexdigest()
-        known[key] = made.put(name, data, name, origin, dump.source if is_handed_in else "", source)
+        source = "" if dumped.derived else hashlib.sha256(dumped.data).hexdigest()
+        known[key] = made.put(name, data, name, origin, dump.source if is_copied else "", source)
     return known[key]
 
 
@@ -101,6 +103,13 @@ def record_of(vmm: Hypervisor, groups: list[tuple[str, launches.Group]], program
     return {"hypervisor": vmm.NAME, "program": program_line, "line": what.line and what.line.words,
             "sources": {name: {"path": blob.path, "sha256": blob.source} for name, blob in blobs_.items()},
             "launches": [one(name, launch) for name, group in groups for launch in group.launches]}
+
+
+def derived_lines(of_dumps: Mapping[str, dumps.Derived | None], trees: Mapping[str, dumps.Dump]) -> list[str]:
+    """Returns a line that says how many devicetrees are derived, and from which dumps."""
+    paths = sorted({visible(each.path) for each in of_dumps.values() if each})
+    count = len({(each.packed, each.length) for each in trees.values()})
+    return [f"{len(of_dumps)} of {count} devicetrees are derived from {sorting.listed(paths)}"] if paths else []
 
 
 def first_faults(*steps: Callable[[], object]):
@@ -227,7 +236,8 @@ class Work:
                 return dumps.own(self.said["own_dtb"], self.chosen["dtb_file"].name == "padded", reader, found)
             if "program" in self.said:
                 return self.made_here(dumps.Program(self.vmm, self.said["program"], self.what.others.kept, made.path, self.said.get("approximate_cpu", "")), reader, found)
-            return dumps.handed_in(self.said["dtb"], reader, found, differences)
+            program = dumps.Program(self.vmm, self.what.line and self.what.line.program or self.vmm.FACTS.dumped_by, self.what.others.kept, made.path)
+            return derived.completed(program, reader, found, dumps.handed_in(self.said["dtb"], reader, found, differences), differences)
 
     def made_here(self, program: dumps.Program, reader: dumps.Reader, found: list[Launch]) -> dict[str, dumps.Dump]:
         """The devicetrees that the program makes; if this machine cannot make those of a realm, a fault with what to do instead."""
@@ -289,7 +299,7 @@ class Work:
                     break
         return lines
 
-    def made_by(self) -> str:
+    def made_by(self, are_derived: bool) -> str:
         if "program" in self.said:
             seeds = self.vmm.FACTS.no_seeds
             among = f", {seeds} among them" if seeds else ""
@@ -297,7 +307,8 @@ class Work:
                     f"by this one, and by the words of the launch{among}.")
         if "own_dtb" in self.said:
             return "The devicetree is the file of -dtb, and QEMU does not edit it for a realm: see the row dtb_file."
-        return "The devicetrees were handed in by --dtb and are placed as they are, but for the row psci."
+        some = "; some are derived from others, and say so" if are_derived else ""
+        return f"The devicetrees were handed in by --dtb and are placed as they are, but for the row psci{some}."
 
     def write(self, made: Folder) -> tuple[list[str], dict[str, object]]:
         """All of the work, into a folder that is not in its place yet; lines about it, and what its record says."""
@@ -311,7 +322,9 @@ class Work:
         warnings = [*checks.warnings(list(different.values())), *checks.of_console(found), *self.unsettled(found, trees)]
         line = self.what.line.words if self.what.line and not self.what.line.program else []
         warnings += [f"--approximate-cpu: these are {LIKE}" for _ in self.approximate()]
-        about = manifest.About(self.vmm, self.words, line, self.host, self.taken() | self.approximate(), self.algo_from, self.table, self.made_by(), warnings,
+        of_dumps = {launch.tree.file: each.derived for launch in found if launch.tree and not launch.tree.path and (each := trees[launch.name]).derived}
+        about = manifest.About(self.vmm, self.words, line, self.host, self.taken() | self.approximate(), self.algo_from, self.table,
+                               self.made_by(bool(of_dumps)), warnings,
                                ["-dtb", self.said["own_dtb"]] if "own_dtb" in self.said else [])
         groups = launches.groups(found)
         manifests = ["manifest.toml"] if len(groups) == 1 else [f"manifest-{number}.toml" for number in range(1, len(groups) + 1)]
@@ -320,10 +333,10 @@ class Work:
             made.text(name, manifest.manifest(group, about, part))
         made.script("measure", os.path.join(os.path.dirname(os.path.realpath(__file__)), "measure.py"))
         if self.is_told:
-            ending.say("rim-manifest", *(f"warning: {warning}" for warning in warnings))
+            ending.say("rim-manifest", *(f"warning: {warning}" for warning in warnings), *derived_lines(of_dumps, trees))
         lines = [f"{visible(os.path.join(self.out, name))}: {group}" for name, group in zip(manifests, groups)]
         record = record_of(self.vmm, list(zip(manifests, groups)), self.program_line, self.what)
-        return lines, record | {"host": host_of(self.host, about.chosen)}
+        return lines, record | {"derived": {name: asdict(each) for name, each in of_dumps.items() if each}, "host": host_of(self.host, about.chosen)}
 
     def measured(self, folder: str) -> tuple[int, str]:
         """Measures the launches of a folder that is not in its place yet. Returns the status of `rim measure` and the report."""
