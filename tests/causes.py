@@ -396,7 +396,7 @@ def forms_of_logs(program: str) -> list[str]:
     here.put("other.toml", manifest(launch(count=2, block_level=3, memory=64, initrd_at=0x4100_0000, dtb_at=0x4120_0000)))
     levels = printed(program, here, "list", "other.toml")
     here.put("level.toml", manifest(launch(count=2, memory=64, initrd_at=0x4100_0000, dtb_at=0x4120_0000)))
-    bare = "".join(line.split(" ", 1)[1] + "\n" for line in trace.splitlines())
+    bare = without_rims(trace)
     log, all_steps = monitors_log(listing), 'launch "vm": all '
     wrong = []
     for name, data, path, status, parts in (
@@ -419,12 +419,60 @@ def forms_of_logs(program: str) -> list[str]:
     return wrong
 
 
+LOW_PLACES = {"count": 2, "initrd_at": 0x4100_0000, "dtb_at": 0x4120_0000}
+ALL_SPLIT = 'launch "vm": all 267 lines are the {} of log\n'
+RAM_PART = "RAM, region 0 from 0x40000000 to 0x44000000: they part at 0x42000000, entry 16 of 2 MiB\n"
+
+
+def by_blocks(program: str, here: Folder, memory: int, size: int, **numbers) -> str:
+    """The trace of a machine that logs each block of RAM by itself: the RIMs are the same."""
+    regions = [f"[{at:#x}, {at + size:#x}]" for at in range(LOW, LOW + memory * MIB, size)]
+    whole = launch(memory=memory, **LOW_PLACES, **numbers)
+    here.put("blocks.toml", manifest(whole.replace(f"[[{LOW:#x}, {LOW + memory * MIB:#x}]]", f"[{', '.join(regions)}]")))
+    return printed(program, here, "trace", "blocks.toml")
+
+
+def without_rims(trace: str) -> str:
+    return "".join(line.split(" ", 1)[1] + "\n" for line in trace.splitlines())
+
+
+def split_ram(program: str) -> list[str]:
+    """Logs that have RAM in other lines than `rim trace`: by blocks where that has a command, or by one command. It is the first step that differs
+    that is found, and not the first line."""
+    here, wrong = Folder(FILES), []
+    here.put("m.toml", manifest(launch(memory=64, **LOW_PLACES)))
+    here.put("parts.toml", manifest(launch(memory=64, **LOW_PLACES).replace("[[0x40000000, 0x44000000]]", "[[0x40000000, 0x41000000], [0x41000000, 0x44000000]]")))
+    blocks, half = (by_blocks(program, here, memory, 2 * MIB) for memory in (64, 32))
+    pages, more = by_blocks(program, here, 64, 2 * MIB, block_level=3), by_blocks(program, here, 128, 2 * MIB)
+    bps, pc = by_blocks(program, here, 64, 2 * MIB, num_bps=4), blocks.replace(" 0000000040200000 0000000041200000", " 0000000040200000 0000000041200008")
+    assert len(blocks.splitlines()) == 298 and pc != blocks
+    levels = "RAM is the same, so its blocks are of other levels\n"
+    for name, data, path, status, parts in (
+            ("blocks", blocks, "m.toml", 0, [ALL_SPLIT.format(298)]),
+            ("blocks without RIMs", without_rims(blocks), "m.toml", 0, [ALL_SPLIT.format(298), "the levels of tables are not compared\n", "if what it does not hold"]),
+            ("blocks, and two commands", blocks, "parts.toml", 0, ['launch "vm": all 268 lines are the 298 of log\n']),
+            ("a register after blocks", pc, "m.toml", 1, ["the first 266 of its 267 lines are the first 297 of the 298 of log\n",
+                                                          "line 267, line 298 of log, differs in x0\n", "REC 0\nx0: "]),
+            ("less RAM by blocks", half, "m.toml", 1, ["the first 1 of its 267 lines are those of log, which has 282\n", "line 2 differs in top\n", RAM_PART]),
+            ("less RAM by blocks without RIMs", without_rims(half), "m.toml", 1, ["line 2 differs in top\n", RAM_PART]),
+            ("less RAM by blocks, and two commands", half, "parts.toml", 1, ["the first 2 of its 268 lines are the first 9 of the 282 of log\n", "differs in top\n",
+                                                                            "they part at 0x42000000, entry 8 of 2 MiB\n"]),
+            ("more RAM by blocks", more, "m.toml", 1, ["the first 2 of its 267 lines are the first 33 of the 330 of log\n", "differs in the command\n"]),
+            ("blocks of other levels", pages, "m.toml", 1, ["line 2 differs in the RIM\n", levels]),
+            ("a parameter", bps, "m.toml", 1, ["line 1 differs in num_bps\n"])):
+        here.put("log", data.encode())
+        ran, out, said = match(program, here, "--nearest", "log", path, "vm")
+        wrong += differs(f"{name}: status, what is said", (ran, said), (status, ""))
+        wrong += [f"{name}: {part!r} is not in {out!r}" for part in parts if part not in out]
+    return wrong
+
+
 def all_tries(program: str):
     for name, there, numbers, options, text in CHANGES:
         yield name, lambda there=there, numbers=numbers, options=options, text=text: change(program, there, numbers, options, text)
     for name, numbers, options, text in OF_EDITED:
         yield f"{name}, edited by rim", lambda numbers=numbers, options=options, text=text: change(program, {}, numbers, options, text, EDITED)
-    for look in (not_named, together, near_things, made_anew, explained, forms_of_logs):
+    for look in (not_named, together, near_things, made_anew, explained, forms_of_logs, split_ram):
         yield look.__name__, lambda look=look: look(program)
 
 

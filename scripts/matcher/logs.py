@@ -65,11 +65,20 @@ def text(step: Step) -> str:
     return " ".join("-" if each is None else each for each in step)
 
 
+def is_ram(step: Step) -> bool:
+    return len(step) == 3 and step[0] == "init_ripas" and None not in step
+
+
+def goes_on(step: Step, after: Step) -> bool:
+    """Whether a step makes RAM that goes on where the one before it ended."""
+    return is_ram(step) and is_ram(after) and step[2] == after[1]
+
+
 def joined(steps: list[Step]) -> list[Step]:
     """The steps with RAM that goes on where the last command ended as one."""
     found: list[Step] = []
     for step in steps:
-        if found and step[0] == found[-1][0] == "init_ripas" and len(step) == len(found[-1]) == 3 and found[-1][2] == step[1]:
+        if found and goes_on(found[-1], step):
             found[-1] = ("init_ripas", found[-1][1], step[2])
         else:
             found.append(step)

@@ -2,6 +2,7 @@
 import base64
 import binascii
 import re
+from collections.abc import Sequence
 from dataclasses import dataclass
 
 from outside.faults import WrongWords
@@ -22,6 +23,13 @@ class Value:
 
     algo: str
     digits: str
+
+
+def last_shared(here: Sequence[str], there: Sequence[str]) -> tuple[int, int]:
+    """Returns how many of each sequence there are up to the last one that is in both, or 0 and 0. For measurements after each step, equal ones
+    are of equal steps before them, whether a machine logs a step for each block of RAM or for each command."""
+    places = {each: number for number, each in enumerate(there, 1)}
+    return max(((number, places[each]) for number, each in enumerate(here, 1) if each in places), default=(0, 0), key=lambda both: both[1])
 
 
 def bytes_of(text: str, name: str) -> bytes:

@@ -19,7 +19,7 @@ from finder.runs import Candidate, Runs
 from finder.search import COSTLY, Search
 from typing import Union
 from outside.faults import Fault
-from outside.measurement import Value
+from outside.measurement import Value, last_shared
 from outside.parameters import RMM_1_0, Parameter
 from outside.stopping import Stopped
 
@@ -478,21 +478,13 @@ def search(cases: list[Case], choices: Choices, limit: int, algo: str | None) ->
     return Outcome(settled, before + main.tried + (last.tried if last else 0), main.refused, choices.count, lines, main.rounds[-1].is_whole)
 
 
-def shared(lines: Sequence[str], trace: Sequence[str]) -> tuple[int, int]:
-    """Returns how many steps a trace and the lines of a launch have up to the last measurement that is in both. A trace may have one for each
-    block of RAM, or for each command: equal measurements are of equal steps before them, however these are counted."""
-    places = {rim: number for number, rim in enumerate(trace, 1)}
-    both = [(places[rim], number) for number, rim in enumerate((line.split(" ", 1)[0] for line in lines), 1) if rim in places]
-    return max(both, default=(0, 0))
-
-
 def nearest_lines(case: Case, choices: Choices) -> list[str]:
     """How far the trace of a machine goes with a launch of the rows' likeliest combinations, the parameters being found."""
     best, last, by = 0, "none", choices.structures[0][0]
     for place, (structure, _) in enumerate(choices.structures[:MOST_TRACED]):
         candidate = case.candidate((place, 0, 0, 0, 0, 0))
         lines = case.runs.trace(candidate) if candidate else []
-        same, after = shared(lines, case.trace)
+        after, same = last_shared([line.split(" ", 1)[0] for line in lines], case.trace)
         if same > best:
             best, last, by = same, lines[after].split(" ", 1)[1] if after < len(lines) else "none", structure
     taken = ", ".join(f"{name} = {way}" for name, way in choices.taken(by).items())
