@@ -52,8 +52,8 @@ FACTS = Facts(DTB_ALIGN, ends_after_dump=True, dtb_length=MIB, no_seeds="dtb-ran
               unpacks_gzip=True, zboot={"gzip": (10, 0), "zstd": (11, 1)}, dumped_by="qemu-system-aarch64", why_not_derived=why_not_derived)
 # ldr x0, dtb; mov x1, xzr; mov x2, xzr; mov x3, xzr; ldr x4, kernel; br x4; then the two addresses
 STUB = (0x580000C0, 0xAA1F03E1, 0xAA1F03E2, 0xAA1F03E3, 0x58000084, 0xD61F0080)
-# The windows after RAM, in their order: the word that has one off, and its size.
-WINDOWS = (("highmem-redists", 64 * MIB), ("highmem-ecam", 256 * MIB), ("highmem-mmio", 512 * GIB))
+# The windows after RAM, in their order: the word that has one off, and its size. That of CXL is there only where its word has it on (memory).
+WINDOWS = (("highmem-redists", 64 * MIB), ("cxl", MIB), ("highmem-ecam", 256 * MIB), ("highmem-mmio", 512 * GIB))
 # The words of -cpu that count what is measured: the key of the host's file, and the least that there is.
 COUNTS = {"num-breakpoints": ("num_bps", 1), "num-watchpoints": ("num_wps", 1), "num-pmu-counters": ("pmu_num_ctrs", 0)}
 # The longest vector of SVE, in units of 128 bits.
@@ -145,7 +145,7 @@ def is_compact(machine: str, words: dict[str, str]) -> bool:
 def highest(guest: Guest, bits: int) -> int:
     """The end of the highest window after RAM, where a host takes addresses of so many bits: one that ends past them is left out."""
     words = machine_words(guest.machine.text)
-    sizes = dict(WINDOWS)
+    sizes = {key: length for key, length in WINDOWS if key != "cxl" or words.get(key) in ON}
     if "highmem-mmio-size" in words:
         sizes["highmem-mmio"] = size("-machine: highmem-mmio-size", words["highmem-mmio-size"], 1)
     end = top(guest)

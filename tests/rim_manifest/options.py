@@ -81,6 +81,8 @@ OF_HEAD = ["# What a realm changes. The alternatives that host.toml names were s
 FULL_HOST = host(sve="true", sve_vl="1", num_aux="2", rpv='"' + "0f" * 64 + '"', rec_rule='"all"', hypervisor_version='"10.0.2"')
 HOST_KEYS = {"num_bps": 5, "num_wps": 3, "sve": True, "sve_vl": 1, "pmu": True, "pmu_num_ctrs": 6, "block_level": 2, "num_aux": 2,
              "rec_rule": "all", "rpv": "0f" * 64}
+NEWER = ("virt,gic-version=3,msi=its,virtio-mmio-transports=4,spcr=off,cxl=off,smp-cache.0.cache=l1i,smp-cache.0.topology=core,smp-cache.1.cache=l2,"
+         "smp-cache.1.topology=cluster")
 OPTIONS = [
     ("the host's keys", WITH_TREE, lambda folder: differs("keys", {key: first(folder).get(key) for key in HOST_KEYS}, HOST_KEYS),
      {"host.toml": FULL_HOST}),
@@ -167,8 +169,8 @@ OPTIONS = [
      + differs("words", recorded(folder)["words"][-1], f"{256 * MIB}B"), {"l": HAND.replace("-m 256M", "-M memory-backend=r,dtb-randomness=off -object "
      "memory-backend-memfd,id=r,size=256M,share=on").encode()}),
     ("a program of another name", ["qemu", "--line", "l", *LINE_OF], lambda folder: [], {"l": HAND.replace("aarch64", "arm64").encode()}, "no dtb-randomness"),
-    ("words of newer versions", [*replaced(QEMU, "-M", "virt,gic-version=3,msi=its,virtio-mmio-transports=4,spcr=off"), "--qemu", "./stand-in", "--", "-global",
-     "kvm-pit.lost_tick_policy=discard"], lambda folder: differs("words", "virt,gic-version=3,msi=its,virtio-mmio-transports=4,spcr=off," in
+    ("words of newer versions", [*replaced(QEMU, "-M", NEWER), "--qemu", "./stand-in", "--", "-global",
+     "kvm-pit.lost_tick_policy=discard"], lambda folder: differs("words", f"{NEWER}," in
      folder.read("said").decode(), True) + differs("rest", recorded(folder)["rest"], []), TREES),
     *[(f"a realm's object: {text}", [*replaced(WITH_TREE, "-M", "virt,confidential-guest-support=a"), "--", "-object", f"rme-guest,id=a,{text}"],
        lambda folder: differs("rpv", first(folder).get("rpv"), None), {}, warns) for text, warns in (

@@ -64,6 +64,8 @@ QEMU_PLACES = [
      "1G,slots=2,maxmem=6G"], image(), None, [(LOW, 0x8000_0000)], {"stub": LOW, "kernel": 0x4020_0000, "dtb": 0x4800_0000}, LOW, [], 35),
     ("no window above RAM", ["-M", "virt,highmem-mmio=off,highmem-ecam=off,highmem-redists=off", "-cpu", "max", "-m", "4G"], image(), None,
      [(LOW, 0x1_4000_0000)], {"stub": LOW, "kernel": 0x4020_0000, "dtb": 0x4800_0000}, LOW, [], 34),
+    ("a window of CXL alone", ["-M", "virt,highmem-mmio=off,highmem-ecam=off,highmem-redists=off,cxl=on", "-cpu", "max", "-m", "1G"], image(), None,
+     [(LOW, 0x8000_0000)], {"stub": LOW, "kernel": 0x4020_0000, "dtb": 0x4800_0000}, LOW, [], 40),
 ]
 OTHER_PLACES = [
     ("256 MiB", ["kvmtool", "-c", "1", "-m", "256"], image(), 9001, [(0x8000_0000, 0x9000_0000)],
