@@ -19,8 +19,10 @@ from .dumps import Derived, Dump, Program, Reader, commands, key_of, written
 from .hypervisor import Hypervisor
 from .launches import Launch
 
-# How many dumps a fault names.
-MOST_REASONS = 3
+# How many dumps a fault names, and of how many that it asks for others are foreseen to be derived.
+MOST_REASONS, MOST_ASKED = 3, 64
+# The longest command line, in bytes, of which it is foreseen that the bytes after it are known.
+MOST_SHORT = 400
 
 
 class Refused(Exception):
@@ -152,6 +154,24 @@ class Sources:
                 return replace(read, derived=made.derived)
         raise Refused("; ".join(f"{visible(path)}: {why}" for why, path in list(reasons.items())[:MOST_REASONS]))
 
+    def leads_to(self, dumped: Launch, launch: Launch, counts: set[int]) -> bool:
+        """Whether the devicetree of a launch is likely to be derived, once that of another one is dumped; `counts`: the numbers of processors of all
+        dumps of the machine."""
+        differing, count = changes(dumped, launch), launch.processors
+        is_known = not ("initrd" in differing and not dumped.initrd or "command line" in differing and len(launch.guest.append.text) > MOST_SHORT)
+        is_step = count == dumped.processors or len(counts) > 1 and count <= trees.MOST_PROCESSORS and (count > 1 or 1 in counts)
+        return is_known and is_step and not self.vmm.FACTS.why_not_derived(dumped.guest, launch.guest, self.kept)
+
+    def needed(self, launches: list[Launch]) -> list[Launch]:
+        """Returns those of some launches whose devicetrees have to be dumped: the others are likely to be derived from these then."""
+        firsts, asked = [group[0] for _, group in self.fitting.values()], []
+        for launch in launches:
+            machine, cpu = launch.guest.machine, launch.guest.cpu
+            counts = {each.processors for each in (*firsts, *asked) if (each.guest.machine, each.guest.cpu) == (machine, cpu)}
+            if not any(self.leads_to(each, launch, counts) for each in asked[:MOST_ASKED]):
+                asked.append(launch)
+        return asked
+
 
 def completed(program: Program, reader: Reader, launches: list[Launch], chosen: dict[str, Dump],
               differences: Callable[[Launch, Dump], list]) -> dict[str, Dump]:
@@ -176,13 +196,14 @@ def completed(program: Program, reader: Reader, launches: list[Launch], chosen: 
         except Refused as why:
             reasons[key] = f"launch {launch.name}: no --dtb fits it, and its devicetree cannot be derived: {why}"
     if reasons:
-        refuse(program, [launch for launch in unfit if key_of(launch) in reasons], next(iter(reasons.values())), len(reasons) - 1)
+        needed = sources.needed([launch for launch in unfit if key_of(launch) in reasons])
+        refuse(program, needed, next(iter(reasons.values())), len(reasons) - 1)
     return chosen | {launch.name: made[key_of(launch)] for launch in unfit}
 
 
 def refuse(program: Program, launches: list[Launch], why: str, more: int):
-    """Raises a fault with the command that makes each devicetree on the machine of the realm."""
-    others = f" (and {more} devicetree{'s' * (more > 1)} more)" if more else ""
-    fault = Fault(f"{why}{others}; run the commands below on the machine of the realm, and add the options in the last line")
+    """Raises a fault with the commands that make the devicetrees of some launches on the machine of the realm."""
+    others, several = f" (and {more} devicetree{'s' * (more > 1)} more)" if more else "", "s" * (len(launches) > 1)
+    fault = Fault(f"{why}{others}; run the command{several} below on the machine of the realm, and add what is in the last line")
     fault.block = commands(program, program.path, launches)
     raise fault

@@ -157,10 +157,33 @@ def derived(program: str):
         return wrong + read_by(program, folder, count=72)
 
 
+# Launches of which a dump is missing: the words, and the dumps that are asked for, after which all others are derived.
+NEEDED = [
+    (["--each-memory", "512M,1G,2G", "--each-smp", "1,2,4,8"], {"512M-smp2-Image-no-initrd-console_ttyAMA0-sha512.dtb": qemu_tree(count=2, initrd=None)}),
+    (["--each-memory", "512M,1G", "--each-initrd", "initrd", "--no-initrd"], {"512M-smp1-Image-initrd-console_ttyAMA0-sha512.dtb": DUMPS["of-one"]}),
+    (["--each-smp", "1,2,3", "--each-initrd", "initrd", "--no-initrd"], {
+        "512M-smp1-Image-initrd-console_ttyAMA0-sha512.dtb": DUMPS["of-one"], "512M-smp2-Image-initrd-console_ttyAMA0-sha512.dtb": DUMPS["of-two"]}),
+    (["--each-memory", "512M,1G", "-cpu", "cortex-a57", "-cpu", "cortex-a72"], {
+        "cortex-a72-512M-smp1-Image-no-initrd-console_ttyAMA0-sha512.dtb": qemu_tree(model="arm,cortex-a72", initrd=None)}),
+]
+
+
+def asked_for(words: list[str], dumps: dict[str, bytes]) -> list[str]:
+    """The fault asks for as few dumps as it takes, and with them nothing is refused."""
+    with Folder(DUMPS | dumps) as folder:
+        line = ["qemu", "--host", "host.toml", "--out", "out", *given(["one"]), *words]
+        outcome = folder.run(*line, *LINE)
+        last = outcome[2].splitlines()[-1]
+        wrong = differs("asked", (is_clear(*outcome), last), (True, "# " + " ".join(given(list(dumps)))))
+        return wrong + differs("with them", folder.run(*line, *given(list(dumps)), *LINE)[0], 0)
+
+
 def tries(program: str) -> Iterator[tuple[str, Callable[[], list[str]]]]:
     yield "derived devicetrees", lambda: derived(program)
     for name, *each in REFUSED:
         yield f"no devicetree is derived: {name}", lambda each=each: refused(*each)
+    for number, each in enumerate(NEEDED):
+        yield f"dumps that are asked for, {number}", lambda each=each: asked_for(*each)
     if QEMU is None:
         print("derived devicetrees are not compared with those of QEMU: there is no qemu-system-aarch64")
     for seed in range(FAMILIES if QEMU else 0):
