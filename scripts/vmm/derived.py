@@ -68,7 +68,7 @@ def edited(source: Source, new: Launch) -> bytes:
     old, draft = source.launch, source.draft.copy()
     differing, was, place = changes(old, new), initrd_of(old), initrd_of(new)
     if "number of processors" in differing and not trees.set_processors(draft, new.processors):
-        raise Refused(f"more than {trees.MOST_PROCESSORS} processors, or of several clusters, are not derived")
+        raise Refused(f"only up to {trees.MOST_PROCESSORS} processors of one cluster are derived")
     if "RAM" in differing and not trees.set_memory(draft, tuple(old.places.ram), tuple(new.places.ram)):
         raise Refused("its memory node is another one than a plain line has")
     if "initrd" in differing and was is None:
@@ -92,10 +92,10 @@ class Sources:
         self.steps_of = functools.lru_cache(maxsize=None)(self.agreeing)
 
     def made(self, path: str) -> Source:
-        """Returns the source of a path. A dump that fits launches of two machines was made by one of them, and which is not known."""
+        """Returns the source of a path. It is not known which machine has made a dump that fits launches of two."""
         dump, launches = self.fitting[path]
         if len({(each.guest.machine.text, each.guest.cpu.text, each.guest.smp.words) for each in launches}) > 1:
-            raise Refused("it fits launches of different machines, and was made by one of them")
+            raise Refused("it fits launches of several machines, and only one of them has made it")
         return source_of(launches[0], dump)
 
     def others(self, path: str) -> list[Source]:
@@ -204,6 +204,6 @@ def completed(program: Program, reader: Reader, launches: list[Launch], chosen: 
 def refuse(program: Program, launches: list[Launch], why: str, more: int):
     """Raises a fault with the commands that make the devicetrees of some launches on the machine of the realm."""
     others, several = f" (and {more} devicetree{'s' * (more > 1)} more)" if more else "", "s" * (len(launches) > 1)
-    fault = Fault(f"{why}{others}; run the command{several} below on the machine of the realm, and add what is in the last line")
+    fault = Fault(f"{why}{others}; run the command{several} below on the machine of the realm, and add the options in the last line")
     fault.block = commands(program, program.path, launches)
     raise fault

@@ -59,7 +59,7 @@ class Derived:
     changed: tuple[str, ...]
 
     def __str__(self) -> str:
-        return f'derived from "{visible(self.path)}", the devicetree of launch {self.launch}, with another {" and ".join(self.changed)}'
+        return f'derived from "{visible(self.path)}", the devicetree of launch {self.launch}; changed: {", ".join(self.changed)}'
 
 
 @dataclass(frozen=True)

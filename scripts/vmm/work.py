@@ -307,7 +307,7 @@ class Work:
                     f"by this one, and by the words of the launch{among}.")
         if "own_dtb" in self.said:
             return "The devicetree is the file of -dtb, and QEMU does not edit it for a realm: see the row dtb_file."
-        some = "; some are derived from others, and say so" if are_derived else ""
+        some = ". Those of other launches are derived from them, as the comments of their files say" if are_derived else ""
         return f"The devicetrees were handed in by --dtb and are placed as they are, but for the row psci{some}."
 
     def write(self, made: Folder) -> tuple[list[str], dict[str, object]]:
