@@ -420,7 +420,7 @@ def forms_of_logs(program: str) -> list[str]:
 
 
 LOW_PLACES = {"count": 2, "initrd_at": 0x4100_0000, "dtb_at": 0x4120_0000}
-ALL_SPLIT = 'launch "vm": all 267 lines are the {} of log\n'
+ALL_SPLIT = 'launch "vm": all {} lines are those of log, which has 298 and splits RAM otherwise\n'
 RAM_PART = "RAM, region 0 from 0x40000000 to 0x44000000: they part at 0x42000000, entry 16 of 2 MiB\n"
 
 
@@ -448,16 +448,16 @@ def split_ram(program: str) -> list[str]:
     assert len(blocks.splitlines()) == 298 and pc != blocks
     levels = "RAM is the same, so its blocks are of other levels\n"
     for name, data, path, status, parts in (
-            ("blocks", blocks, "m.toml", 0, [ALL_SPLIT.format(298)]),
-            ("blocks without RIMs", without_rims(blocks), "m.toml", 0, [ALL_SPLIT.format(298), "the levels of tables are not compared\n", "if what it does not hold"]),
-            ("blocks, and two commands", blocks, "parts.toml", 0, ['launch "vm": all 268 lines are the 298 of log\n']),
-            ("a register after blocks", pc, "m.toml", 1, ["the first 266 of its 267 lines are the first 297 of the 298 of log\n",
-                                                          "line 267, line 298 of log, differs in x0\n", "REC 0\nx0: "]),
+            ("blocks", blocks, "m.toml", 0, [ALL_SPLIT.format(267)]),
+            ("blocks without RIMs", without_rims(blocks), "m.toml", 0, [ALL_SPLIT.format(267), "the levels of tables are not compared\n", "if what it does not hold"]),
+            ("blocks, and two commands", blocks, "parts.toml", 0, [ALL_SPLIT.format(268)]),
+            ("a register after blocks", pc, "m.toml", 1, ["the first 266 of its 267 lines are the first 297 of the 298 of log, which splits RAM otherwise\n",
+                                                          "line 267 (line 298 of log) differs in x0\n", "REC 0\nx0: "]),
             ("less RAM by blocks", half, "m.toml", 1, ["the first 1 of its 267 lines are those of log, which has 282\n", "line 2 differs in top\n", RAM_PART]),
             ("less RAM by blocks without RIMs", without_rims(half), "m.toml", 1, ["line 2 differs in top\n", RAM_PART]),
-            ("less RAM by blocks, and two commands", half, "parts.toml", 1, ["the first 2 of its 268 lines are the first 9 of the 282 of log\n", "differs in top\n",
+            ("less RAM by blocks, and two commands", half, "parts.toml", 1, ["the first 2 of its 268 lines are the first 9 of the 282 of log, which splits", "differs in top\n",
                                                                             "they part at 0x42000000, entry 8 of 2 MiB\n"]),
-            ("more RAM by blocks", more, "m.toml", 1, ["the first 2 of its 267 lines are the first 33 of the 330 of log\n", "differs in the command\n"]),
+            ("more RAM by blocks", more, "m.toml", 1, ["the first 2 of its 267 lines are the first 33 of the 330 of log, which splits", "differs in the command\n"]),
             ("blocks of other levels", pages, "m.toml", 1, ["line 2 differs in the RIM\n", levels]),
             ("a parameter", bps, "m.toml", 1, ["line 1 differs in num_bps\n"])):
         here.put("log", data.encode())

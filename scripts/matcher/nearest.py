@@ -155,8 +155,8 @@ def said_of(found: Found, near: Near, path: str, log: Log) -> list[str]:
         rim = [f"the RIM after them is {last_rim(found)}{known}"] * (not log.rims)
         if log.rim not in (None, last_rim(found)):
             rim = [f"the RIM after them is {last_rim(found)}, and {log.rim} there: the tables have other levels, or the rule of RECs is another"]
-        return [f'launch "{near.name}": all {mine} {what} are {f"the {theirs}" if is_split else "those"} of {path}', *rim, *lacks]
-    first = f"the first {theirs} of the {len(there)} of {path}" if is_split else f"those of {path}, which has {len(there)}"
+        return [f'launch "{near.name}": all {mine} {what} are those of {path}{f", which has {theirs} and splits RAM otherwise" * is_split}', *rim, *lacks]
+    first = f"the first {theirs} of the {len(there)} of {path}, which splits RAM otherwise" if is_split else f"those of {path}, which has {len(there)}"
     lines, word = [f'launch "{near.name}": the first {mine} of its {len(here)} {what} are {first}'], what[:-1]
     if mine == len(here) or theirs == len(there):
         which, at = ("the launch", theirs) if mine == len(here) else (path, mine)
@@ -164,7 +164,7 @@ def said_of(found: Found, near: Near, path: str, log: Log) -> list[str]:
             f"{where}: {plain(text(steps[at]))}" for where, steps, at in ((near.name, here, mine), (path, there, theirs)) if at < len(steps)] + lacks
     one, other = blocks(here[mine:], there[theirs:], log)
     names = differing(one, other, log)
-    where = f"{word} {mine + 1}" + f", {word} {theirs + 1} of {path}," * (mine != theirs)
+    where = f"{word} {mine + 1}" + f" ({word} {theirs + 1} of {path})" * (mine != theirs)
     return [*lines, f"{where} differs in {', '.join(names)}", *unmeasured(names, here[mine:], there[theirs:], log, word),
             *["RAM is the same, so its blocks are of other levels"] * (names == ["the RIM"] and is_ram(bare(one, log))),
             f"{near.name}: {text(one)}", f"{path}: {plain(text(other))}", *lacks]
