@@ -2,12 +2,13 @@
 from __future__ import annotations
 
 from collections.abc import Callable
+from dataclasses import replace
 
 from outside.texts import quoted
 from outside.trees import Draft, Flat, drafted, set_bootargs, set_initrd, set_memory, set_processors, written
 
 from .files import Files
-from .launch import MIB, PAGE, Item, Launch, with_item
+from .launch import MIB, PAGE, Launch, with_item
 
 
 def draft_of(files: Files, name: str, flat: Flat) -> Draft | None:
@@ -55,10 +56,10 @@ def with_bootargs(launch: Launch, files: Files, text: str) -> Launch | None:
     if dtb is None or dtb.file is None:
         return None
     if dtb.bootargs is not None:
-        return with_item(launch, dtb, edited(dtb, text))
+        return with_item(launch, dtb, replace(dtb, bootargs=text))
     file = changed(files, dtb.file, ("bootargs", text), f"with bootargs {quoted(text)} in /chosen", lambda draft: set_bootargs(draft, text),
                    append=text)
-    return None if file is None else with_item(launch, dtb, with_file(dtb, file))
+    return None if file is None else with_item(launch, dtb, replace(dtb, file=file))
 
 
 def with_processors(launch: Launch, files: Files, count: int) -> Launch | None:
@@ -66,7 +67,7 @@ def with_processors(launch: Launch, files: Files, count: int) -> Launch | None:
     if dtb is None or dtb.file is None:
         return None
     file = changed(files, dtb.file, ("processors", count), f"with {count} processors", lambda draft: set_processors(draft, count), smp=str(count))
-    return None if file is None else with_item(launch, dtb, with_file(dtb, file))
+    return None if file is None else with_item(launch, dtb, replace(dtb, file=file))
 
 
 def followed(old: Launch, new: Launch, files: Files) -> Launch:
@@ -90,15 +91,7 @@ def followed(old: Launch, new: Launch, files: Files) -> Launch:
     if len(new.ram) == 1 and old.ram != new.ram and (new.ram[0][1] - new.ram[0][0]) % MIB == 0:
         words["memory"] = f"{(new.ram[0][1] - new.ram[0][0]) // MIB}M"
     file = changed(files, dtb.file, key, f"that says {' and '.join(said)}", change, **words)
-    return new if file is None else with_item(new, dtb, with_file(dtb, file))
-
-
-def edited(dtb: Item, text: str) -> Item:
-    return Item(dtb.name, dtb.kind, dtb.at, dtb.file, dtb.size, dtb.measured, text, dtb.initrd, dtb.memory)
-
-
-def with_file(item: Item, file: str) -> Item:
-    return Item(item.name, item.kind, item.at, file, item.size, item.measured, item.bootargs, item.initrd, item.memory)
+    return new if file is None else with_item(new, dtb, replace(dtb, file=file))
 
 
 def placed_after(old: Launch, new: Launch, files: Files, alignment: int) -> int | None:
