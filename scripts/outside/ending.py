@@ -1,4 +1,4 @@
-"""How a script ends: what stops it is a line on standard error, and a status."""
+"""How a script ends: with a status, and with lines on standard error if something stops it."""
 import os
 import sys
 import traceback
@@ -11,7 +11,7 @@ from .texts import plain, visible
 
 
 def say(name: str, *lines: str):
-    """Says lines of the script on standard error."""
+    """Prints lines of the script on standard error."""
     try:
         print("".join(f"{name}: {plain(line)}\n" for line in lines), end="", file=sys.stderr, flush=True)
     except OSError:
@@ -19,14 +19,14 @@ def say(name: str, *lines: str):
 
 
 def drop_output():
-    """Lets what was not written go: Python would try to write it once more at its end."""
+    """Discards output that was not written: Python would try to write it again at its end."""
     nowhere = os.open(os.devnull, os.O_WRONLY)
     os.dup2(nowhere, sys.stdout.fileno())
     os.close(nowhere)
 
 
 def prepare():
-    """Has both outputs take each text: a path need not be UTF-8, nor need a terminal know each letter."""
+    """Has both outputs take each text: a path need not be UTF-8, and a terminal need not know each letter."""
     if sys.stdout is None:
         raise Fault("output: it is closed, expected one that can be written to")
     for output in (sys.stdout, sys.stderr):
@@ -35,16 +35,16 @@ def prepare():
 
 
 def status_of(name: str, run: Callable[[], int]) -> int:
-    """The status of a run of the script of this name."""
+    """Runs the script of this name and returns its status."""
     if sys.stderr is None:
-        # first of all: what is opened next would get its number
+        # first of all: the next file that is opened would get its number
         sys.stderr = open(os.devnull, "w", encoding="utf-8")
     try:
         stopping.heed()
         status = status_or_fault(name, run)
         stopping.heed_no_more()
     except KeyboardInterrupt as why:
-        stopping.heed_none()
+        stopping.heed_no_more()
         status = why.status if isinstance(why, Stopped) else 130
     try:
         if sys.stdout is not None:
@@ -55,7 +55,7 @@ def status_of(name: str, run: Callable[[], int]) -> int:
 
 
 def status_or_fault(name: str, run: Callable[[], int]) -> int:
-    """The status of a run, also where something stops it."""
+    """Returns the status of a run, and prints why it has failed."""
     try:
         prepare()
         status = run()
@@ -65,20 +65,15 @@ def status_or_fault(name: str, run: Callable[[], int]) -> int:
         say(name, *why.lines)
         print(getattr(why, "block", ""), end="", file=sys.stderr, flush=True)
         return why.status
-    except BrokenPipeError:
-        drop_output()
-        return 3
     except OSError as why:
         drop_output()
-        say(name, f"{visible(str(why.filename or 'output'))}: {why.strerror or why}")
-        return 3
+        if not isinstance(why, BrokenPipeError):
+            say(name, f"{visible(str(why.filename or 'output'))}: {why.strerror or why}")
     except MemoryError:
         say(name, "there is not enough memory")
-        return 3
     except RecursionError:
         say(name, "what is read has values too deep in one another")
-        return 3
     except Exception as why:
         last = traceback.extract_tb(why.__traceback__)[-1]
         say(name, f"{type(why).__name__} in line {last.lineno} of {visible(last.filename)}: {why}, which is a fault of this script")
-        return 3
+    return 3

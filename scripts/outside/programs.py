@@ -1,10 +1,12 @@
-"""Runs of programs that may misbehave: never end, say gigabytes, leave programs of their own.
+"""Runs of programs that may misbehave: never end, print gigabytes, leave programs of their own.
 
-A program is started in a session of its own, and all that is in its process group is killed where it ends, takes too long, says too
-much, or the script is stopped. What it says is read as it comes, so that it never waits for the script.
+A program is started in a session of its own, and its whole process group is killed when it ends, when it exceeds a limit, and when the
+script is stopped: a program that it has left would otherwise go on, and keep its output open (tests/sharing.py). Its output is read as it
+comes, not by `communicate`, which has no limit and waits for all that keep the output open.
 """
 from __future__ import annotations
 
+import math
 import os
 import resource
 import selectors
@@ -14,25 +16,27 @@ import subprocess
 import sys
 import time
 from collections.abc import Callable
+from contextlib import suppress
 from dataclasses import dataclass
 
 from . import stopping
 from .faults import Fault
 from .texts import last_line, shown, visible
 
-# How much is kept of what a program says, where its caller asks for no more.
+# The most bytes that are kept of a program's output, unless its caller asks for more.
 KEPT = 64 << 10
-# How long a program is waited for at a time: it may have ended while one that it has started keeps its output open.
-TICK = 0.05
-# How long what a program has said last is waited for, once all in its group is killed.
+# Seconds between two looks at whether a program has ended: one that it has started may keep its output open. With `until`, or once the output
+# is closed, it is looked at more often.
+TICK, SHORT_TICK = 0.05, 0.002
+# Seconds for the last of its output, once its group is killed.
 LAST = 1.0
 
 
 @dataclass(frozen=True)
 class Limits:
-    """How long a program may take, how much it may say on standard output, and how much memory and how long files it may have."""
+    """The most seconds of a program, bytes of its standard output, and bytes of its memory and of a file that it writes."""
 
-    seconds: float | None = None
+    seconds: float = math.inf
     out: int = KEPT
     memory: int | None = None
     file: int | None = None
@@ -40,8 +44,7 @@ class Limits:
 
 @dataclass(frozen=True)
 class Ran:
-    """What came of a run: its status (less than 0 by a signal), what it has said on standard output and on standard error, of which the
-    last is kept, and whether it was ended before it ended itself."""
+    """The outcome of a run: the status (negative for a signal), standard output, the end of standard error, and whether `until` cut it short."""
 
     status: int
     out: bytes
@@ -58,129 +61,87 @@ class Ran:
 
     @property
     def said(self) -> str:
-        """The last line that it has said on standard error, or how it has ended. By `--explain` that of `rim` is why."""
+        """The last line of standard error, or how it has ended. With `--explain`, the line of `rim` has the reason."""
         return last_line(self.err.decode(errors="surrogateescape"), self.ended)
 
 
 class SaysTooMuch(Fault):
-    """A program says more on standard output than its caller has asked for."""
+    """A program prints more on standard output than its caller has asked for."""
 
 
-RUNNING: set["Running"] = set()
+class Output:
+    """The output of a program so far."""
 
+    def __init__(self, process: subprocess.Popen[bytes], most: int):
+        self.process, self.most, self.out, self.err = process, most, bytearray(), bytearray()
+        self.selector = selectors.PollSelector()
+        for pipe, kept in ((process.stdout, self.out), (process.stderr, self.err)):
+            if pipe:
+                self.selector.register(pipe, selectors.EVENT_READ, kept)
 
-class Running:
-    """A program that runs, and all that it has started in its group."""
-
-    def __init__(self, words: list[str], limits: Limits = Limits(), folder: str | None = None, shows: bool = False):
-        self.name, self.limits, self.out, self.err = words[0], limits, bytearray(), bytearray()
-        self.until = None if limits.seconds is None else time.monotonic() + limits.seconds
-        error = None if shows else subprocess.PIPE
-        with stopping.held():
-            try:
-                self.process = subprocess.Popen(words, stdin=subprocess.DEVNULL, stdout=subprocess.PIPE, stderr=error, cwd=folder,
-                                                start_new_session=True)
-            except (OSError, ValueError) as why:
-                raise Fault(f"{visible(self.name)}: {getattr(why, 'strerror', None) or why}, expected a program") from None
-            RUNNING.add(self)
-            self.limit(resource.RLIMIT_AS, limits.memory)
-            self.limit(resource.RLIMIT_FSIZE, limits.file)
-            self.selector = selectors.DefaultSelector()
-            for pipe, into in ((self.process.stdout, self.out), (self.process.stderr, self.err)):
-                if pipe:
-                    os.set_blocking(pipe.fileno(), False)
-                    self.selector.register(pipe, selectors.EVENT_READ, into)
-            if stopping.is_stopped():
-                # what was running when the signal came is killed, and this was not known then
-                self.stop()
-                stopping.raise_here()
-
-    def limit(self, which: int, most: int | None):
-        """Limits what it may have from here on, where it is not limited more already."""
-        if most is not None:
-            try:
-                _, hard = resource.prlimit(self.process.pid, which)
-                least = most if hard == resource.RLIM_INFINITY else min(most, hard)
-                resource.prlimit(self.process.pid, which, (least, least))
-            except (ProcessLookupError, PermissionError):
-                pass
-
-    def has_ended(self) -> bool:
-        """Whether it has ended. It is not reaped, so that its number is that of no other group."""
-        if self.process.returncode is not None:
-            return True
-        return os.waitid(os.P_PID, self.process.pid, os.WEXITED | os.WNOHANG | os.WNOWAIT) is not None
-
-    def kill(self):
-        """Kills all that is in its group."""
-        if self.process.returncode is None:
-            try:
-                os.killpg(self.process.pid, signal.SIGKILL)
-            except (ProcessLookupError, PermissionError):
-                pass
-
-    def read(self, seconds: float) -> bool:
-        """Reads what it says for at most so long; whether there is more to come."""
-        for key, _ in self.selector.select(seconds) if self.selector.get_map() else ():
-            try:
-                part = os.read(key.fd, KEPT)
-            except BlockingIOError:
-                continue
-            if not part:
-                self.selector.unregister(key.fileobj)
-                continue
-            key.data.extend(part)
-            if key.data is self.err:
-                del self.err[:-KEPT]
-            elif len(self.out) > self.limits.out:
-                raise SaysTooMuch(f"{visible(self.name)}: it says more than {self.limits.out} bytes, expected at most that")
+    @property
+    def is_open(self) -> bool:
         return bool(self.selector.get_map())
 
-    def wait(self, until: Callable[[], bool] | None = None) -> Ran:
-        """What came of it, once it has ended, or this holds of what it does."""
-        is_cut = False
+    def read(self, seconds: float):
+        """Waits for output for at most this long, and keeps it."""
+        for key, _ in self.selector.select(seconds):
+            part = os.read(key.fd, KEPT)
+            key.data.extend(part)
+            if not part:
+                self.selector.unregister(key.fileobj)
+        del self.err[:-KEPT]
+        if len(self.out) > self.most:
+            raise SaysTooMuch(f"{visible(self.process.args[0])}: it says more than {self.most} bytes, expected at most that")
+
+
+def started(words: list[str], limits: Limits, folder: str | None, shows: bool) -> subprocess.Popen[bytes]:
+    """Starts a program in a session of its own, with its limits. With `shows`, it shares the script's standard error."""
+    error = None if shows else subprocess.PIPE
+    with stopping.held():
         try:
-            while not self.has_ended():
-                if until and until():
-                    is_cut = True
-                    break
-                if self.until is not None and time.monotonic() > self.until:
-                    raise Fault(f"{visible(self.name)}: it takes more than {self.limits.seconds:g} s, expected it to end")
-                if not self.read(0.002 if until else TICK):
-                    time.sleep(0.002)
-            self.kill()
-            last = time.monotonic() + LAST
-            while self.read(TICK) and time.monotonic() < last:
-                pass
-        finally:
-            self.stop()
+            process = subprocess.Popen(words, stdin=subprocess.DEVNULL, stdout=subprocess.PIPE, stderr=error, cwd=folder, start_new_session=True)
+        except (OSError, ValueError) as why:
+            raise Fault(f"{visible(words[0])}: {getattr(why, 'strerror', None) or why}, expected a program") from None
+        stopping.RUNNING.add(process)
         if stopping.is_stopped():
-            stopping.raise_here()
-        return Ran(self.process.returncode, bytes(self.out), bytes(self.err), is_cut)
-
-    def stop(self):
-        """Kills all that is in its group, and waits for its own end."""
-        with stopping.held():
-            self.kill()
-            self.process.wait()
-            RUNNING.discard(self)
-            self.selector.close()
-            for pipe in (self.process.stdout, self.process.stderr):
-                if pipe:
-                    pipe.close()
+            # the signal came before this program was known, and has killed the others
+            stopping.kill(process)
+    for which, most in ((resource.RLIMIT_AS, limits.memory), (resource.RLIMIT_FSIZE, limits.file)):
+        with suppress(ProcessLookupError, PermissionError):
+            # -1 is no limit
+            hard = resource.prlimit(process.pid, which)[1] % (1 << 64)
+            if most is not None:
+                resource.prlimit(process.pid, which, (min(most, hard), min(most, hard)))
+    return process
 
 
-def kill_all():
-    for each in list(RUNNING):
-        each.kill()
+def has_ended(process: subprocess.Popen[bytes]) -> bool:
+    """Whether a program has ended. It is not waited for yet, so that its number stays that of its group."""
+    return os.waitid(os.P_PID, process.pid, os.WEXITED | os.WNOHANG | os.WNOWAIT) is not None
 
 
-stopping.when_stopped(kill_all)
-
-
-def run(words: list[str], limits: Limits = Limits(), folder: str | None = None, until: Callable[[], bool] | None = None) -> Ran:
-    """Runs a program to its end, or until this holds."""
-    return Running(words, limits, folder).wait(until)
+def run(words: list[str], limits: Limits = Limits(), folder: str | None = None, until: Callable[[], bool] | None = None, shows: bool = False) -> Ran:
+    """Runs a program until it ends, or `until` returns true."""
+    end, is_cut = time.monotonic() + limits.seconds, False
+    process = started(words, limits, folder, shows)
+    with process:
+        try:
+            output = Output(process, limits.out)
+            while not has_ended(process) and not is_cut:
+                if time.monotonic() > end:
+                    raise Fault(f"{visible(words[0])}: it takes more than {limits.seconds:g} s, expected it to end")
+                output.read(TICK if output.is_open and not until else SHORT_TICK)
+                is_cut = until is not None and until()
+            stopping.kill(process)
+            end = time.monotonic() + LAST
+            while output.is_open and time.monotonic() < end:
+                output.read(TICK)
+        finally:
+            stopping.kill(process)
+            stopping.RUNNING.discard(process)
+    stopping.check()
+    return Ran(process.returncode, bytes(output.out), bytes(output.err), is_cut)
 
 
 def found() -> str:
@@ -194,8 +155,8 @@ def found() -> str:
 
 
 def check(path: str) -> str:
-    """The version of `rim`, which is started once and says what it has to: the script of a checkout may first have to build it."""
-    ran = Running([path, "--version"], shows=True).wait()
+    """The version of `rim`, which is started once and prints its standard error here: the script of a checkout may first have to build it."""
+    ran = run([path, "--version"], shows=True)
     if ran.status:
         raise Fault(f"{visible(path)} --version: {ran.ended}, expected the program rim")
     return last_line(ran.out.decode(errors="replace"), "").removeprefix("rim ")

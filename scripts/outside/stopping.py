@@ -1,21 +1,27 @@
-"""The signals that stop a script: INT, TERM and HUP. The first of them ends all that goes on and raises `Stopped` in the main thread;
-those after it change nothing, so that the way out is gone once and to its end.
+"""The signals that stop a script: INT, TERM and HUP. The first one kills the programs that run and raises `Stopped` in the main thread; later
+ones only kill programs, so that clean-up runs exactly once.
 
-Python runs a handler in the main thread, and not before what that waits for has come: it may wait for a thread that waits for a program.
-So a thread of its own ends the programs, and all waits end with them.
+Two things look like more than is needed, and tests/building.py fails without them:
+
+- A thread of its own kills the programs. The system may give a signal to a thread that starts a program, and then the main thread goes on
+  waiting for such a thread: Python would call the handler only once the program has ended.
+- A step that must not be left half-done is `held`: a signal that comes in it is raised at its end. Else a program that has just been started
+  would be orphaned, and a file that has just been made would stay.
 """
 from __future__ import annotations
 
 import os
 import signal
+import subprocess
 import threading
-from collections.abc import Callable, Iterator
-from contextlib import contextmanager
-from dataclasses import dataclass, field
+from collections.abc import Iterator
+from contextlib import contextmanager, suppress
+from dataclasses import dataclass
 from types import FrameType
-from typing import NoReturn
 
 SIGNALS = (signal.SIGINT, signal.SIGTERM, signal.SIGHUP)
+# The programs that run, each the leader of a process group of its own.
+RUNNING: set[subprocess.Popen[bytes]] = set()
 
 
 class Stopped(KeyboardInterrupt):
@@ -28,24 +34,19 @@ class Stopped(KeyboardInterrupt):
 
 @dataclass
 class State:
-    """Which signal has come, whether it was raised, how many steps of the main thread hold it off, and what is done when one comes."""
+    """The first signal that has come, whether the main thread has raised it, and the number of its steps that hold it off."""
 
-    number: int | None = None
+    number: int = 0
     is_raised: bool = False
     held: int = 0
-    calls: list[Callable[[], None]] = field(default_factory=list)
 
 
 STATE = State()
 
 
-def is_stopped() -> bool:
-    return STATE.number is not None
-
-
 def heed():
-    """Has the script stop at the signals, but for those that whoever started it has it ignore, as nohup does."""
-    # where whoever started it ignores the ends of programs, nobody could see them
+    """Handles the signals, except those that the caller of the script has it ignore, as nohup does."""
+    # If SIGCHLD is ignored, the system discards the statuses of programs.
     signal.signal(signal.SIGCHLD, signal.SIG_DFL)
     ours, theirs = os.pipe()
     os.set_blocking(theirs, False)
@@ -57,60 +58,43 @@ def heed():
 
 
 def heed_no_more():
-    """Has signals end the script at once from here on: what was to be done is done."""
-    STATE.is_raised = True
-    for number in SIGNALS:
-        if signal.getsignal(number) == came:
-            signal.signal(number, signal.SIG_DFL)
-
-
-def heed_none():
-    """Has all later signals change nothing, to the very end: before that Python puts back what they do by default."""
+    """Ignores the signals from here on. At its end Python would replace a handler by the default, which loses the status."""
     for number in SIGNALS:
         signal.signal(number, signal.SIG_IGN)
 
 
 def watch(ours: int):
-    """Begins to stop at each signal: Python writes its number when it comes."""
+    """Kills the programs at each signal, whose number Python writes into the pipe in whichever thread it comes."""
     while number := os.read(ours, 1):
-        begin(number[0])
-
-
-def begin(number: int):
-    """Ends what goes on."""
-    if STATE.number is None:
-        STATE.number = number
-    for call in STATE.calls:
-        call()
-
-
-def when_stopped(call: Callable[[], None]):
-    """Has this done as soon as a signal comes, whatever the main thread waits for."""
-    STATE.calls.append(call)
+        kill_all(number[0])
 
 
 def came(number: int, _frame: FrameType | None):
-    begin(number)
-    raise_if_stopped()
+    kill_all(number)
+    raise_in_main()
 
 
-def raise_if_stopped():
+def raise_in_main():
     """Raises a signal that has come, once, unless a step holds it off."""
-    if STATE.number is not None and not STATE.held and not STATE.is_raised:
+    if STATE.number and not STATE.held and not STATE.is_raised:
         STATE.is_raised = True
         raise Stopped(STATE.number)
 
 
-def raise_here() -> NoReturn:
-    """Raises a signal that has come in this thread, whichever it is. In the main thread that is the once."""
-    if threading.current_thread() is threading.main_thread():
-        STATE.is_raised = True
-    raise Stopped(STATE.number or signal.SIGINT)
+def is_stopped() -> bool:
+    return STATE.number > 0
+
+
+def check():
+    """Raises a signal that has come, in whichever thread this is."""
+    if is_stopped():
+        STATE.is_raised |= threading.current_thread() is threading.main_thread()
+        raise Stopped(STATE.number)
 
 
 @contextmanager
 def held() -> Iterator[None]:
-    """A step that is done whole: a signal that comes in it is raised at its end. Signals are raised in the main thread alone."""
+    """Runs a step to its end before a signal is raised. Signals are raised in the main thread alone."""
     if threading.current_thread() is not threading.main_thread():
         yield
         return
@@ -119,4 +103,18 @@ def held() -> Iterator[None]:
         yield
     finally:
         STATE.held -= 1
-    raise_if_stopped()
+    raise_in_main()
+
+
+def kill(process: subprocess.Popen[bytes]):
+    """Kills a program and all that it has started in its group, unless it was waited for: its number may be another program's then."""
+    if process.returncode is None:
+        with suppress(ProcessLookupError, PermissionError):
+            os.killpg(process.pid, signal.SIGKILL)
+
+
+def kill_all(number: int = 0):
+    """Kills all programs, because of a signal if one is given."""
+    STATE.number = STATE.number or number
+    for process in list(RUNNING):
+        kill(process)

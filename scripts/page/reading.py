@@ -272,8 +272,7 @@ def in_order(some: Sequence[Given], make: Callable[[Given], Made], at_once: int,
 
 
 def begun(make: Callable[[Given], Made], given: Given) -> Made:
-    if stopping.is_stopped():
-        stopping.raise_here()
+    stopping.check()
     return make(given)
 
 

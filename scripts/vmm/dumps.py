@@ -12,7 +12,7 @@ import time
 from collections.abc import Callable
 from dataclasses import dataclass, replace
 
-from outside import files, programs
+from outside import files, programs, stopping
 from outside.faults import Fault
 from outside.programs import Limits, Ran
 from outside.rim import Rim, Tree, tree_of, with_smc
@@ -242,7 +242,7 @@ def made(program: Program, reader: Reader, launches: list[Launch]) -> dict[str, 
             if shows:
                 print(f"\rrim-manifest: {len(found)} of {len(firsts)} devicetrees", end="", file=sys.stderr, flush=True)
     finally:
-        programs.kill_all()
+        stopping.kill_all()
         pool.shutdown(cancel_futures=True)
         if shows:
             print("\r\033[K", end="", file=sys.stderr, flush=True)

@@ -34,10 +34,9 @@ sys.path.insert(0, str(TOP / "scripts"))
 
 from outside import ending, files, programs, texts  # noqa: E402, the path is set above
 from outside.faults import WrongWords  # noqa: E402
-from outside.programs import Limits  # noqa: E402
 
-# How often the processes are looked at, in seconds; how much `rt ci` may say; how long crates.txt may be.
-EACH, SAID, FILE = 0.1, 256 << 20, 1 << 20
+# Seconds between two looks at the processes, and the most bytes of crates.txt.
+EACH, FILE = 0.1, 1 << 20
 MOST_LANES = 64
 TICKS = os.sysconf("SC_CLK_TCK")
 
@@ -279,17 +278,8 @@ def lanes_of(words: list[str]) -> int:
 
 def main() -> int:
     os.environ["RT_JOBS"] = str(lanes_of(sys.argv[1:]))
-    watch, began, told = Watch(), time.monotonic(), 0
-    ci = programs.Running(["rt", "ci", "--anew"], Limits(out=SAID), str(TOP))
-
-    def look() -> bool:
-        nonlocal told
-        sys.stderr.write(ci.out[told:].decode(errors="replace"))
-        told = len(ci.out)
-        return watch.look()
-
-    ran = ci.wait(look)
-    look()
+    watch, began = Watch(), time.monotonic()
+    ran = programs.run(["/bin/sh", "-c", "exec rt ci --anew >&2"], folder=str(TOP), until=watch.look, shows=True)
     show(watch)
     print(f"{(time.monotonic() - began) / 60:.1f} minutes passed, {os.environ['RT_JOBS']} checks at a time; status {ran.status}")
     return ran.status
