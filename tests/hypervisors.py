@@ -4,7 +4,7 @@
     tests/hypervisors.py [PROGRAM]          by default the program that `rt ci` has built
 
 - Wrong words and faults: the status, the one line and that nothing is written. For speed these are runs of its `main` in a process of
-  many; all others start rim-manifest itself. Command lines and domains that no launch can be made of are among them.
+  many; all others start rim-manifest itself. Command lines that no launch can be made of are among them.
 - Command lines as people have them: those of tests/lines, each with the launch that was worked out by hand beside it; and those of libvirt's own tests.
 - Random command lines: `check` has no warning about their manifests.
 - Places: addresses that were worked out by hand from docs/VMM.md, of each hypervisor.

@@ -3,7 +3,6 @@
 words               the options of rim-manifest: their lists, sizes and help
 asked               what is asked for: the options, and a hypervisor's command line
 lines               that line out of words, or of a text as a shell reads it
-libvirt             that line out of a domain of libvirt's
 sorting             tables of a hypervisor's words, by which its line is sorted
 names               names of launches and of what they are made of
 host                the file about a machine

@@ -1,5 +1,5 @@
-"""What is asked for: the options of rim-manifest, and a hypervisor's command line. That is after `--`, in a file, or made of a domain of
-libvirt's; an option that says the same counts in its place. A command line is one launch: only options ask for several."""
+"""What is asked for: the options of rim-manifest, and a hypervisor's command line, which is after `--` or in a file. An option that says the
+same counts in its place. A command line is one launch: only options ask for several."""
 from __future__ import annotations
 
 from dataclasses import dataclass, field, replace
@@ -8,7 +8,7 @@ from outside import files, parameters
 from outside.faults import Fault, WrongWords
 from outside.texts import shown, visible
 
-from . import host, libvirt, lines, names, words
+from . import host, lines, names, words
 from .guest import Word
 from .host import Host
 from .hypervisor import Hypervisor
@@ -17,10 +17,6 @@ from .ways import Chosen
 
 # How long a file of command lines may be: each is a launch, of which a manifest takes 1,024.
 MOST_LINES = 4 << 20
-# How a domain of libvirt's says what has no element.
-LIBVIRT_SEEDS = (". libvirt has no element for it: put <qemu:commandline> with <qemu:arg value='-machine'/> and <qemu:arg "
-                 "value='dtb-randomness=off'/> into the domain")
-ONE_OF = ("the words after `--`", "--line", "--libvirt")
 
 
 @dataclass(frozen=True)
@@ -33,13 +29,10 @@ class Line:
 
 def line_of(vmm: Hypervisor, said: dict) -> Line | None:
     """The command line that is given; None where there is none. A program that a file names is not started: a file may be somebody else's."""
-    given = [name for name, has in zip(ONE_OF, (said["rest"], "line" in said, "libvirt" in said)) if has]
-    if len(given) > 1:
-        raise WrongWords(f"{' and '.join(given)}: both are given, expected one of them")
+    if said["rest"] and "line" in said:
+        raise WrongWords("the words after `--` and --line: both are given, expected one of them")
     if "line" in said:
         return Line("", lines.of_file(said["line"], vmm.PROGRAM, vmm.GRAMMAR.title, "folder" in said))
-    if "libvirt" in said:
-        return Line("", libvirt.words_of(said["libvirt"]))
     if not said["rest"] or said["rest"][0].startswith("-"):
         return None
     return Line(*lines.of_words(said["rest"], vmm.PROGRAM, vmm.GRAMMAR.title))
@@ -163,6 +156,5 @@ def warnings(vmm: Hypervisor, what: Asked, machines: list[Word]) -> list[str]:
     if len(machines) > 1:
         found.append(f"-machine has {len(machines)} machines: there are launches for each, where QEMU would make one of them")
     if what.line and seeds and not any(word.partition("=")[0] in machines[0].text for word in (seeds, "dtb-kaslr-seed")):
-        where = LIBVIRT_SEEDS if "libvirt" in what.said else ""
-        found.append(f"the command line has no {seeds}, which is added: start the guest with it too, or each start has another devicetree{where}")
+        found.append(f"the command line has no {seeds}, which is added: start the guest with it too, or each start has another devicetree")
     return found

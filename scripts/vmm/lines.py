@@ -17,7 +17,7 @@ from dataclasses import dataclass, field
 
 from outside import files
 from outside.faults import Fault, WrongWords
-from outside.texts import shown, visible
+from outside.texts import pasted, shown, visible
 
 # Greatest length of a text, which bounds the time for an odd one to a few seconds.
 MOST = 1 << 20
@@ -43,6 +43,8 @@ ELEMENTS = re.compile(rf'"\$\{{({NAME})\[@\]\}}"')
 ARRAY = re.compile(rf"({NAME})(\+?)=")
 # The separators after a command that a shell runs by itself, and not in another process.
 SEQUENCE = re.compile(r"[\n;]*|(?:&&|\|\|)\n*")
+# The start of a domain of libvirt, as `virsh dumpxml` prints it and as a file of libvirt has it.
+DOMAIN = re.compile(r"\s*(?:(?:<\?[^>]*>|<!--(?:(?!-->).)*-->)\s*)*<domain[\s>]", re.S)
 # A section of a unit of systemd with its keys, but for [Service], of which these keys do not change what ExecStart= starts, or where.
 UNIT_SECTION = re.compile(r"^\[(?:Unit|Install)\]\n(?:[^\[\n].*\n|\n)*|^\[Service\]\n?", re.M)
 UNIT_KEYS = re.compile(r"Type|ExecStart|ExecStop|ExecStopPost|ExecReload|Restart\w*|User|Group|Environment|EnvironmentFile|Limit\w+|Kill\w+|Timeout\w+|"
@@ -475,6 +477,9 @@ def check_before(text: Text, command: Command, has_folder: bool, program: re.Pat
 def of_file(path: str, program: str, title: str, has_folder: bool) -> list[str]:
     """Returns the words after the program of the only command line of a hypervisor in a file. `has_folder`: whether -C says where it is run."""
     text, pattern = text_of(path), re.compile(program)
+    if DOMAIN.match(text.text):
+        raise Fault(f"{visible(path)}: it is a domain of libvirt, expected a command line, as libvirt's log /var/log/libvirt/qemu/NAME.log has it, "
+                    f"and as `virsh domxml-to-native qemu-argv {pasted(path)}` prints it")
     if re.search(UNIT_SECTION, text.text):
         return of_unit(text, pattern, has_folder)
     commands = commands_of(text)

@@ -76,7 +76,6 @@ OPTIONS = [
     Option(("-append", "--append", "--each-append"), "append", "TEXT", "a command line of the kernel", True),
     Option(("-dtb",), "own_dtb", "FILE", "QEMU's own word: the devicetree that it is given, which it loads for a realm as the row dtb_file says. "
            "It takes the place of --qemu and of --dtb"),
-    Option(("--libvirt",), "libvirt", "FILE", "a domain of libvirt's, as `virsh dumpxml` prints it: QEMU's line is made of it"),
     Option(("--qemu",), "program", "PROGRAM", "QEMU itself, which makes the devicetrees: each by the final words with "
            "dumpdtb= and dtb-randomness=off, twice. Of other words it is given what changes a devicetree, and nothing that opens "
            "a file or a socket. Not needed where a whole line is after `--`: then it is the program of that line"),

@@ -29,13 +29,13 @@ from .work import Work, go_to, rows_of, tree_blob
 
 USE = "rim-manifest settle HYPERVISOR --host FILE --rim VALUE --out FILE [OPTIONS..] -- LINE"
 # The options of a hypervisor, and of all of them, that it has too.
-OF_HYPERVISOR, OF_ALL = ("libvirt", "program"), ("line", "host", "dtb", "row", "folder", "help")
+OF_HYPERVISOR, OF_ALL = ("program",), ("line", "host", "dtb", "row", "folder", "help")
 OPTIONS = [
     Option(("--rim",), "rim", "VALUE", "the measurement that the machine gave for the guest: hexadecimal digits, or base64"),
     Option(("--rim-file",), "rim_file", "FILE", "a file with it: as text, as the bytes of the claim, or as CBOR has the claim"),
     Option(("--trace",), "trace", "FILE", "lines of which each begins with the measurement after a step, as `rim trace` prints them. The first one "
            "says the parameters of the realm by themselves. Without --rim the last one is the measurement"),
-    Option(("--guests",), "guests", "FILE", "more guests of the machine, in TOML: an array of tables `guest`, each with `line` or `libvirt`, with "
+    Option(("--guests",), "guests", "FILE", "more guests of the machine, in TOML: an array of tables `guest`, each with `line`, with "
            "`rim`, `rim_file` or `trace`, and with `dtb`, one or several. What is found gives the values of all"),
     Option(("--limit",), "limit", "N", f"stop after N launches; {settle.LIMIT:,} by default"),
     Option(("--out",), "out", "FILE", "the file about the host that is written. Required"),
@@ -43,14 +43,14 @@ OPTIONS = [
 ]
 ABOUT = """
 It looks for the alternatives of rows and for the numbers of a machine that give the measurement which the machine gave for a guest, the
-likeliest first, and writes the host's file with them. The guest is a hypervisor's command line, after `--`, of --line or of --libvirt. The
+likeliest first, and writes the host's file with them. The guest is a hypervisor's command line, after `--` or of --line. The
 file of --host has what is known: numbers that it gives come first, then those beside them, then all others. A "?", or a key that is left
 out, is not known; a row that it names is likely, and one that --row names is sure.
 
 Status: 0 found and written, 1 not found, 2 wrong words, 3 a fault; 130, 143 or 129 stopped by INT, TERM or HUP, once what was tried is
 printed.
 """
-GUEST_KEYS = ("line", "libvirt", "dtb", "rim", "rim_file", "trace")
+GUEST_KEYS = ("line", "dtb", "rim", "rim_file", "trace")
 MOST_GUESTS, MOST_FILE, MOST_TRACE = 64, 1 << 20, 256 << 20
 # How many digits of a value a line has.
 DIGITS = 16
@@ -128,7 +128,7 @@ def more_guests(path: str, said: dict) -> list[Given]:
             raise Fault(f"{where}expected texts, and of dtb one or several")
         value, trace = value_of(texts, where)
         shared = {key: each for key, each in said.items() if key in ("host", "row", "program")}
-        own = {key: each for key, each in texts.items() if key in ("line", "libvirt", "dtb")}
+        own = {key: each for key, each in texts.items() if key in ("line", "dtb")}
         if "dtb" in own:
             shared.pop("program", None)
         found.append(Given(shared | own | {"rest": []}, value, trace))
@@ -138,9 +138,9 @@ def more_guests(path: str, said: dict) -> list[Given]:
 def guests_of(said: dict) -> list[Given]:
     """All guests, that of the words first."""
     found = []
-    if said["rest"] or "line" in said or "libvirt" in said or "guests" not in said:
+    if said["rest"] or "line" in said or "guests" not in said:
         value, trace = value_of({key: said[key] for key in ("rim", "rim_file", "trace") if key in said}, "")
-        keys = ("host", "row", "program", "line", "libvirt", "dtb", "rest")
+        keys = ("host", "row", "program", "line", "dtb", "rest")
         found.append(Given({key: said[key] for key in keys if key in said}, value, trace))
     return found + (more_guests(said["guests"], said) if "guests" in said else [])
 
@@ -161,7 +161,7 @@ class Maker:
         said = given.said | {"out": os.path.join(self.scratch, f"guest-{number}")}
         what = asked.asked(self.vmm, said)
         if what.line is None:
-            raise WrongWords("no command line of the guest is given, expected it after `--`, or --line or --libvirt")
+            raise WrongWords("no command line of the guest is given, expected it after `--`, or --line")
         realm = what.others.realm
         if realm and realm.algorithm and realm.algorithm != given.value.algo:
             raise WrongWords(f"the value has the length of {given.value.algo}, and {realm.source} says {realm.algorithm}, expected a value of that")

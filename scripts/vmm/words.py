@@ -34,7 +34,8 @@ class Option:
 
 COMMON = [
     Option(("--line",), "line", "FILE", "a file with the hypervisor's command line, as a shell reads it: quotes, backslashes, lines that go "
-           "on. It is what else comes after `--`"),
+           "on. It is what else comes after `--`. For a guest of libvirt: its log, /var/log/libvirt/qemu/NAME.log, or the output of "
+           "`virsh domxml-to-native qemu-argv DOMAIN.xml`"),
     Option(("--append-file",), "append_file", "FILE", "command lines of the kernel, one a line; empty lines are passed over", True),
     Option(("--no-initrd",), "no_initrd", "", "a launch without initrd too, beside those with one"),
     Option(("--algo",), "algo", "LIST", "hash algorithms, sha256 and sha512: that of the hypervisor's words where these say one, else that of "

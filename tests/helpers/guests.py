@@ -91,16 +91,6 @@ HAND = "qemu-system-aarch64 -M virt,gic-version=3 -cpu max -m 256M -kernel Image
 LKVM_HAND = "lkvm run -c 1 -m 256 -k Image"
 
 
-def domain(**changes: tuple[str, str]) -> bytes:
-    """The domain of tests/lines, in which a text is another one."""
-    with open(os.path.join(LINES, "domain.xml"), encoding="utf-8") as file:
-        text = file.read()
-    for old, new in changes.values():
-        assert old in text
-        text = text.replace(old, new)
-    return text.encode()
-
-
 LINE_OF = ["--host", "host.toml", "--out", "out", "--dtb", "tree"]
 
 NO_PCIE = {"pcie@10000000": None}

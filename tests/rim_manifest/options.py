@@ -11,7 +11,7 @@ from helpers.files import ZSTD, image, tree, zboot
 from helpers.folders import Folder
 from helpers.guests import (
     FILES, HAND, INITRD, KVMTOOL, LINE_OF, LKVM, LOW, NO_PCIE, OTHER_IMAGE, QEMU, STAND_IN, TREES, WITH_INITRD, WITH_TREE, changed_host,
-    changed_tree, domain, host, replaced, without,
+    changed_tree, host, replaced, without,
 )
 from helpers.tries import differs
 
@@ -143,14 +143,6 @@ OPTIONS = [
          "filename":"fw","node-name":"a","read-only":true}' -blockdev driver=raw,node-name=b,file=a""", 0x3000),
         ("pflash0 of a line, nested", ["qemu", "--line", "l", *LINE_OF], HAND + """ -M pflash0=b -blockdev '{"driver":"raw","node-name":"b","file":{"driver":
          "file","filename":"fw"}}'""", 0x3000))],
-    ("firmware of a domain", ["qemu", "--libvirt", "l", *LINE_OF], lambda folder: differs("firmware", folder.read("out/firmware"), FIRMWARE),
-     {"l": domain(a=("<kernel>", "<loader readonly='yes' type='pflash' stateless='yes'>fw</loader><kernel>")), "fw": FIRMWARE,
-      "tree": tree([(LOW, LOW + 1024 * MIB)], "console=ttyAMA0 a='b c'", count=2)}, "firmware is started"),
-    *[(f"firmware of a domain {name}", ["qemu", "--libvirt", "l", *LINE_OF], lambda folder, word=word: differs("words", recorded(folder)["words"][1],
-       f"virt-11.1,{word}gic-version=3,dtb-randomness=off"), {"l": domain(a=("<kernel>Image</kernel>", "<loader>fw</loader>"), b=("<features>", features),
-         c=("<initrd>initrd</initrd>", ""), d=("<cmdline>console=ttyAMA0 a='b c'</cmdline>", "")), "fw": FIRMWARE,
-        "tree": tree([(LOW, LOW + 1024 * MIB)], count=2)}, "firmware is started")
-      for name, features, word in (("without ACPI", "<features>", "acpi=off,"), ("with ACPI", "<features><acpi/>", ""))],
     ("firmware without ACPI", [*without(QEMU, "-kernel"), "-bios", "fw", "--qemu", "./stand-in", "--", "-no-acpi"], lambda folder: differs(
         "words of two dumps", folder.read("said").decode().split("\n").count("-no-acpi"), 2), {"fw": FIRMWARE} | TREES, "firmware is started"),
     ("firmware of kvmtool", [*without(KVMTOOL, "-k"), "-f", "fw"], lambda folder: differs("launch", [first(folder)[key] for key in ("ram", "rec")],
@@ -205,8 +197,6 @@ OPTIONS = [
       for text, says in (("earlycon=pl011,0x9000000 quiet", "earlycon at 0x9000000, in the protected half"),
                          ("a earlycon=uart8250,mmio32,0x1000000", "earlycon at 0x1000000, in the protected half"),
                          ("earlycon=pl011,0x10009000000", ""), ("earlycon", ""), ("noearlycon=pl011,0x9000000", ""))],
-    ("a domain with seeds", ["qemu", "--libvirt", "l", *LINE_OF], lambda folder: [], {"l": domain(a=("'dtb-randomness=off'", "'usb=off'")), "tree": tree(
-        [(LOW, LOW + 1024 * MIB)], "console=ttyAMA0 a='b c'", WITH_INITRD, count=2)}, "libvirt has no element for it: put <qemu:commandline>"),
     ("PSCI of another place", WITH_TREE, lambda folder: [], changed_tree(psci=None, firmware={"p": {
         "compatible": b"arm,psci-1.0\0arm,psci-0.2\0", "method": b"smc\0"}})),
     ("a guest without PSCI", WITH_TREE, lambda folder: [], changed_tree(psci=None), 'warning: 1 of 1 devicetrees have no psci method, expected'),

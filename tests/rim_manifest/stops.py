@@ -1,5 +1,5 @@
-"""Wrong words and faults: the status, the one line on standard error, and that nothing is written. Command lines and domains that no launch can
-be made of are among them."""
+"""Wrong words and faults: the status, the one line on standard error, and that nothing is written. Command lines that no launch can be made of
+are among them."""
 import gzip
 import struct
 
@@ -8,7 +8,7 @@ from helpers.files import ZSTD, Writer, deep, image, strings_first, tree, wide, 
 from helpers.folders import Folder
 from helpers.guests import (
     CLOUD, FILES, GIC_2, HAND, KVMTOOL, LINE_OF, LKVM_HAND, LOW, QEMU, STAND_IN, WITH_INITRD, WITH_TREE, changed_host, changed_tree,
-    domain, host, replaced, without,
+    host, replaced, without,
 )
 from helpers.tries import tried
 
@@ -417,42 +417,16 @@ LINE_STOPS = [
     ("a parenthesis", "qemu", HAND + " -append +(a)", 3, 'l: line 1: "(a)": a shell would expand it'),
     ("very many commands", "qemu", "$(" * (1 << 19), 3, "l: it has no command line of QEMU's, expected one"),
     ("a text that is long", "qemu", "#" * (1 << 20 | 1), 3, "l: it has more than 1048576 bytes"),
-]
-
-DOMAIN_STOPS = [
-    ("a DOCTYPE", ("<domain ", '<!DOCTYPE domain [<!ENTITY a SYSTEM "/etc/passwd">]><domain '), 3, 'it has a DOCTYPE, "domain"'),
-    ("no XML", ("</domain>", ""), 3, "l: it is no XML that is read here (no element found"),
-    ("another element", ("<clock offset='utc'/>", "<new/><other/>"), 2, "l: <new>, <other>: what they change is not known, expected a domain without"),
-    ("firmware with variables", ("<kernel>", "<loader>a</loader><nvram>b</nvram><kernel>"), 2, "l: <nvram>: a flash for variables"),
-    ("firmware that is packed", ("<kernel>", "<loader type='pflash' format='qcow2'>a</loader><kernel>"), 2, "l: <loader>: expected a file as it is"),
-    ("firmware by itself", ("<os>", "<os firmware='efi'>"), 2, "l: <os>: libvirt chooses its firmware, expected <loader> with the file"),
-    ("no kernel", ("<kernel>Image</kernel>", ""), 2, "l: <os>: it has no <kernel>, so that firmware is started"),
-    ("two devicetrees", ("<kernel>", "<dtb>a</dtb><kernel>"), 2, "-dtb and --dtb: both are given"),
-    ("another architecture", ("aarch64' m", "x86_64' m"), 2, "l: <type>: expected arch='aarch64' and a machine"),
-    ("a TPM", ("<memballoon model='virtio'/>", "<tpm model='tpm-tis'/>"), 2, "l: <tpm>: what it changes is not known"),
-    ("RAM that is plugged in", ("<memballoon model='virtio'/>", "<memory model='dimm'/>"), 2, "l: <memory>: what it changes is not known"),
-    ("a device of the host", ("<memballoon model='virtio'/>", "<hostdev type='mdev'/>"), 2, 'l: <hostdev>: whether a "mdev" changes'),
-    ("no GIC", ("<gic version='3'/>", ""), 2, "l: <features>: it has no <gic version='3'/>"),
-    ("GIC 2", ("<gic version='3'/>", "<gic version='2'/>"), 2, '-machine: "gic-version=2": GIC 2, which no realm has'),
-    ("a model of the host's", ("host-passthrough", "host-model"), 2, 'l: <cpu>: mode "host-model" is a model that the host decides'),
-    ("a policy", ("policy='disable'", "policy='optional'"), 2, 'l: <feature>: policy "optional", expected force, require'),
-    ("another root of a bus", ("<memballoon model='virtio'/>", "<controller type='pci' model='pcie-expander-bus'/>"), 2,
-     'l: <controller>: whether a "pcie-expander-bus" changes'),
-    ("distances", ("unit='KiB'/></numa>", "unit='KiB'><distances/></cell></numa>"), 2, "l: <numa>: what is in it beside"),
-    ("another unit", ("<memory unit='KiB'>", "<memory unit='x'>"), 2, 'l: <memory>: its unit is "x"'),
-    ("parts of MiB", ("<memory unit='KiB'>1048576<", "<memory unit='b'>1048577<"), 2, "l: <memory>: it has 1048577 bytes, expected whole MiB"),
-    ("other cells", ("memory='1048576'", "memory='2097152'"), 2, "l: <memory>: it has 1048576 KiB, and the cells of <numa> have 2097152"),
-    ("a text of two lines", ("a='b c'", "a='b\n'"), 2, '--append: "console=ttyAMA0 a=\'b\\x0a\'" has a control character'),
-    ("no number", (">1048576</memory>", ">many</memory>"), 2, 'l: <memory>: "many", expected a whole number'),
-    ("another realm", ("<seclabel type='none'/>", "<launchSecurity type='sev'/>"), 2, "l: <launchSecurity>: expected type='cca' with"),
-    ("a word of QEMU's", ("'dtb-randomness=off'", "'pflash1=a'"), 2, '-machine: "pflash1=a": a flash for variables'),
-    ("another kind of guest", ("<domain type='kvm'", "<domain type='xen'"), 2, 'l: <domain>: its type is "xen", expected kvm or qemu'),
+    *[(f"a domain of libvirt: {text[:12]}", "qemu", text, 3, "l: it is a domain of libvirt, expected a command line, as libvirt's log /var/log/libvirt/qemu/"
+       "NAME.log has it, and as `virsh domxml-to-native qemu-argv l` prints it\n")
+      for text in ("<domain type='kvm' id='3'>\n  <name>guest</name>\n</domain>\n", "<?xml version='1.0'?>\n<domain>\n</domain>\n",
+                   "<!--\nWARNING: > is - generated --\n-->\n\n<!---->" * 1000 + "<domain type='kvm'></domain>")],
+    ("very many comments", "qemu", "<!---->" * 100_000, 3, "l: it has no command line of QEMU's, expected one"),
 ]
 
 STOPS = [(f"words: {name}", words, {}, 2, text) for name, words, text in WRONG]
 STOPS += [(f"fault: {name}", words, files, 3, text) for name, words, files, text in FAULTS]
 STOPS += [(f"a line: {name}", [vmm, "--line", "l", *LINE_OF], {"l": text.encode()}, *rest) for name, vmm, text, *rest in LINE_STOPS]
-STOPS += [(f"a domain: {name}", ["qemu", "--libvirt", "l", *LINE_OF], {"l": domain(a=change)}, *rest) for name, change, *rest in DOMAIN_STOPS]
 
 
 def stops(number: int) -> list[str]:
