@@ -1,19 +1,20 @@
 #!/usr/bin/env python3
-"""Compares the words that scripts, completions and schemas have of a manifest with those of the program.
+"""Compares the words of a manifest in scripts, completions and schemas with those that the program expects.
 
-    tests/words.py
+    tests/words.py [PROGRAM]          by default the program that `rt ci` has built
 
-The program's words are those of its sources: `kind_word`, `KINDS`, `may_repeat` and `StepKind::front` of crates/rim_rules/src/kind.rt, and
-`word` of a hash algorithm and of a rule for RECs in crates/rim_desc. The last line is 'N passed, M failed'.
+Each list of words is that of a fault which PROGRAM prints of a wrong word. The last line is 'N passed, M failed'.
 """
 import json
 import os
 import re
+import subprocess
 import sys
 from functools import partial
 
-from helpers import TOP
-from helpers.tries import differs, told, tried
+from helpers import SECONDS, TOP
+from helpers.manifests import whole
+from helpers.tries import differs, program_of, told, tried
 
 from matcher import launch
 from vmm import realm, ways, words
@@ -21,16 +22,20 @@ from vmm import realm, ways, words
 sys.path.insert(0, os.path.join(TOP, "tools", "package"))
 import command_table
 
-
-def text_of(*path: str) -> str:
-    with open(os.path.join(TOP, *path), encoding="utf-8") as file:
-        return file.read()
+ITEM = {"name": "1", "kind": "raw", "file": "f", "at": 0}
+LAUNCH = {"name": "a", "algo": "sha256", "s2sz": 33, "ram": [[0, 1 << 30]], "rec": [{"runnable": False}], "rec_rule": "all"}
 
 
-def arms(source: str, function: str) -> dict[str, str]:
-    """What each arm of the match of a function has, by its variant."""
-    body = source[source.index(f"fn {function}("):]
-    return dict(re.findall(r"\w+::(\w+) => \"([^\"]*)\"", body[:body.index("\n}\n") if "\n}\n" in body else None]))
+def fault_of(program: str, item: list[dict], **changes) -> str:
+    """The faults of a manifest whose launch has these items, and keys with other values."""
+    table = {"rim_manifest": 2, "file": [{"name": "f", "path": "f"}], "launch": [LAUNCH | {"item": item} | changes]}
+    ran = subprocess.run([program, "check", "/dev/stdin"], input=whole(table), capture_output=True, text=True, timeout=SECONDS, check=False)
+    return ran.stdout + ran.stderr
+
+
+def expected(fault: str) -> list[str]:
+    """The words that a fault says are expected."""
+    return re.findall(r'"(\w+)"', fault.partition("expected ")[2])
 
 
 def enums_of(schema: str) -> list[list[str]]:
@@ -44,50 +49,45 @@ def enums_of(schema: str) -> list[list[str]]:
         for each in node if isinstance(node, list) else ():
             look(each)
 
-    look(json.loads(text_of("docs", schema)))
+    with open(os.path.join(TOP, "docs", schema), encoding="utf-8") as file:
+        look(json.load(file))
     return found
 
 
-KIND = text_of("crates", "rim_rules", "src", "kind.rt")
-KIND_WORDS = arms(KIND, "kind_word")
-LISTED = re.findall(r"Role::(\w+),", KIND[KIND.index("pub const KINDS"):KIND.index("];")])
-KINDS = [KIND_WORDS[each] for each in LISTED]
-REPEATED = re.findall(r"Role::(\w+)", re.search(r"fn may_repeat.*?((?:Role::\w+(?: \| )?)+) => true", KIND, re.S)[1])
-FRONTS = arms(KIND, "front")
-ALGORITHMS = list(arms(text_of("crates", "rim_desc", "src", "measurement.rt"), "word").values())
-RULES = list(arms(text_of("crates", "rim_desc", "src", "rule.rt"), "word").values())
+def of_kinds(program: str, kinds: list[str]) -> list[str]:
+    """The scripts have all kinds, and know of which a launch has one item at most."""
+    single = [kind for kind in kinds if "two-names" in fault_of(program, [ITEM | {"kind": kind}, ITEM | {"name": "2", "kind": kind}])]
+    return (differs("matcher.launch.KINDS", list(launch.KINDS), kinds) + differs("vmm.realm.KINDS", list(realm.KINDS), single)
+            + differs("kinds among vmm.ways.BLOBS", [each for each in ways.BLOBS if each in kinds], single))
 
 
-def of_kinds() -> list[str]:
-    """All kinds are listed, and the scripts have them."""
-    single = [KIND_WORDS[each] for each in LISTED if each not in REPEATED]
-    return (differs("KINDS of kind.rt", sorted(LISTED), sorted(KIND_WORDS)) + differs("matcher.launch.KINDS", list(launch.KINDS), KINDS)
-            + differs("vmm.realm.KINDS", list(realm.KINDS), single)
-            + differs("kinds among vmm.ways.BLOBS", [each for each in ways.BLOBS if each in KINDS], single))
-
-
-def of_steps() -> list[str]:
+def of_steps(program: str) -> list[str]:
     """The words of an order of vmm are those with which steps begin."""
-    return differs("vmm.ways.RAM and RECS", [f"{ways.RAM} ", f"{ways.RECS} "], [FRONTS["Ram"], FRONTS["Rec"]])
+    missing = [re.search(r'there is no step "(.*?)"', fault_of(program, [], steps=steps))[1] for steps in ([], ["ram 0"])]
+    return differs("vmm.ways.RAM and RECS", [f"{ways.RAM} 0", f"{ways.RECS} 0"], missing)
 
 
-def of_algorithms() -> list[str]:
+def of_algorithms(algorithms: list[str]) -> list[str]:
     """Scripts and completions have each algorithm."""
     option = next(each for each in command_table.RIM_MANIFEST.common if each.names == ("--algo",))
-    return (differs("vmm.words.ALGORITHMS", list(words.ALGORITHMS), ALGORITHMS)
-            + differs("--algo of the completions", list(option.value), [*ALGORITHMS, ",".join(ALGORITHMS)]))
+    return (differs("vmm.words.ALGORITHMS", list(words.ALGORITHMS), algorithms)
+            + differs("--algo of the completions", list(option.value), [*algorithms, ",".join(algorithms)]))
 
 
 def of_schema(name: str, *lists: list[str]) -> list[str]:
     """A schema allows just these words of a manifest."""
-    known = {*KINDS, *ALGORITHMS, *RULES}
-    return differs(name, [each for each in enums_of(name) if set(each) & known], list(lists))
+    known = set().union(*lists)
+    return differs(name, [each for each in enums_of(name) if known & set(each)], list(lists))
 
 
 def main() -> int:
-    looks = [("kinds", of_kinds), ("steps", of_steps), ("algorithms", of_algorithms),
-             ("the schema of a map", partial(of_schema, "map.schema.json", KINDS, ALGORITHMS, RULES)),
-             ("the schema of a report", partial(of_schema, "report.schema.json", ALGORITHMS, RULES, KINDS))]
+    program = program_of(sys.argv[1:])
+    kinds = expected(fault_of(program, [ITEM | {"kind": "?"}]))
+    algorithms, rules = (expected(fault_of(program, [], **{key: "?"})) for key in ("algo", "rec_rule"))
+    looks = [("words of the program", partial(differs, "empty", [bool(each) for each in (kinds, algorithms, rules)], [True] * 3)),
+             ("kinds", partial(of_kinds, program, kinds)), ("steps", partial(of_steps, program)), ("algorithms", partial(of_algorithms, algorithms)),
+             ("the schema of a map", partial(of_schema, "map.schema.json", kinds, algorithms, rules)),
+             ("the schema of a report", partial(of_schema, "report.schema.json", algorithms, rules, kinds))]
     return told([(name, tried(look)) for name, look in looks])
 
 
