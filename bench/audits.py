@@ -19,6 +19,10 @@ import sys
 import tempfile
 import time
 
+sys.path.insert(0, os.path.join(os.path.dirname(os.path.dirname(os.path.abspath(__file__))), "tests"))
+
+from helpers import manifests  # noqa: E402, the path is set above
+
 KIB, MIB = 1 << 10, 1 << 20
 PAGE = 4 * KIB
 # The largest number of launches of a manifest.
@@ -58,14 +62,12 @@ def devicetree(size):
 
 
 def manifest(files, launches):
-    tables = "".join(f'[[file]]\nname = "{name}"\npath = "{name}"\n' for name in files)
-    return "rim_manifest = 1\n" + tables + "".join(launches)
+    return manifests.manifest(*launches, files=list(files))
 
 
 def launch(number, items, ram=MIB << 10, algo="sha256", more=""):
     """A launch with this much RAM, and the texts of its items."""
-    head = f'[[launch]]\nname = "l{number}"\nalgo = "{algo}"\ns2sz = 40\nram = [[{RAM}, {RAM + ram}]]\n'
-    return head + more + "".join(f"[[launch.item]]\n{item}\n" for item in items)
+    return manifests.launch(f"l{number}", more, *(f"[[launch.item]]\n{item}" for item in items), algo=algo, s2sz=40, ram=[[RAM, RAM + ram]])
 
 
 def item(kind, file, at, more=""):

@@ -11,20 +11,13 @@ import time
 
 top = os.path.dirname(os.path.dirname(os.path.abspath(__file__)))
 program = os.path.join(top, "crates", "rim", "out", "rim")
+sys.path.insert(0, os.path.join(top, "tests"))
+
+from helpers.manifests import launch, manifest  # noqa: E402, the path is set above
 
 
-def manifest(count):
-    lines = ["rim_manifest = 1"]
-    for i in range(count):
-        lines += [
-            "[[launch]]",
-            f'name = "launch-{i}"',
-            f'algo = "{"sha512" if i % 2 else "sha256"}"',
-            f"s2sz = {32 + i % 17}",
-            f"num_bps = {i % 16}",
-            f'rpv = "{i:0128x}"',
-        ]
-    return "\n".join(lines) + "\n"
+def launches(count):
+    return [launch(f"launch-{i}", algo="sha512" if i % 2 else "sha256", s2sz=32 + i % 17, num_bps=i % 16, rpv=f"{i:0128x}") for i in range(count)]
 
 
 def least_time(words, runs):
@@ -41,7 +34,7 @@ def main():
     runs = int(sys.argv[2]) if len(sys.argv) > 2 else 20
     subprocess.run([os.path.join(top, "rim"), "--build", "--help"], check=True, stdout=subprocess.DEVNULL)
     with tempfile.NamedTemporaryFile("w", suffix=".toml") as file:
-        file.write(manifest(count))
+        file.write(manifest(*launches(count)))
         file.flush()
         whole = least_time([program, "measure", file.name], runs)
         script = least_time([os.path.join(top, "rim"), "measure", file.name], runs)

@@ -14,6 +14,10 @@ import tempfile
 import time
 
 top = os.path.join(os.path.dirname(os.path.abspath(__file__)), "..")
+sys.path.insert(0, os.path.join(top, "tests"))
+
+from helpers import manifests  # noqa: E402, the path is set above
+
 RUNS = 5
 MIB = 1 << 20
 
@@ -26,23 +30,22 @@ def image(size):
     return bytes(header) + bytes(size - 64)
 
 
-def launch(name, keys):
-    return f'[[launch]]\nname = "{name}"\nalgo = "sha256"\n{keys}\n'
+def launch(name, keys, s2sz=40):
+    return manifests.launch(name, keys, s2sz=s2sz)
 
 
 def manifest(files, *launches):
-    tables = "".join(f'[[file]]\nname = "{name}"\npath = "{name}"\n' for name in files)
-    return "rim_manifest = 1\n" + tables + "".join(launches)
+    return manifests.manifest(*launches, files=files)
 
 
-KERNEL = "s2sz = 40\nram = [[0x40000000, 0x80000000]]\nitem = [{name = 'k', kind = 'kernel', file = 'k', at = 0x40200000}]\nrec = [{}]"
-PAGES = "s2sz = 40\nram = [[0, 0x100000000]]\nitem = [{name = 'x', kind = 'raw', file = 'x', at = 0, size = %d, measured = false}]"
-ENTRIES = "s2sz = 48\nblock_level = 3\nram = [[0, %d]]"
+KERNEL = "ram = [[0x40000000, 0x80000000]]\nitem = [{name = 'k', kind = 'kernel', file = 'k', at = 0x40200000}]\nrec = [{}]"
+PAGES = "ram = [[0, 0x100000000]]\nitem = [{name = 'x', kind = 'raw', file = 'x', at = 0, size = %d, measured = false}]"
+ENTRIES = "block_level = 3\nram = [[0, %d]]"
 # The words of a run, its manifest, and its files.
 CASES = {
     "1,048,576 pages of an item": (["check"], manifest("x", launch("a", PAGES % (1 << 32))), {"x": b"x"}),
-    "4 entries of 4 KiB": (["check"], manifest("", launch("a", ENTRIES % (4 << 12))), {}),
-    "4,194,304 entries of 4 KiB": (["check"], manifest("", launch("a", ENTRIES % (1 << 34))), {}),
+    "4 entries of 4 KiB": (["check"], manifest("", launch("a", ENTRIES % (4 << 12), 48)), {}),
+    "4,194,304 entries of 4 KiB": (["check"], manifest("", launch("a", ENTRIES % (1 << 34), 48)), {}),
     "1,024 launches over a kernel of 32 MiB": (["check"], manifest("k", *(launch(f"l{n}", KERNEL) for n in range(1024))), {"k": image(32 * MIB)}),
     "the listing of 65,536 pages": (["list", "a"], manifest("x", launch("a", PAGES % (65536 << 12))), {"x": b"x"}),
 }

@@ -28,8 +28,9 @@ from collections.abc import Iterator
 from dataclasses import dataclass
 
 TOP = pathlib.Path(__file__).resolve().parents[1]
-sys.path.insert(0, str(TOP / "scripts"))
+sys.path.insert(0, str(TOP / "tests"))
 
+from helpers import manifests  # noqa: E402, the path is set above
 from outside import ending  # noqa: E402, the path is set above
 from outside.faults import Fault  # noqa: E402
 from outside.texts import last_line, visible  # noqa: E402
@@ -117,13 +118,10 @@ def contents(item: Item) -> Iterator[bytes]:
 
 
 def manifest(release: Release) -> str:
-    tables = [f'[[file]]\nname = "{item.name}"\npath = "{item.name}"\n' for item in release.items]
-    placed = [f'[[launch.item]]\nname = "{item.name}"\nkind = "{item.kind}"\nfile = "{item.name}"\nat = {RAM + item.at}\n'
-              for item in release.items]
-    for number in range(release.launches):
-        end = RAM + release.ram + 2 * MIB * number
-        tables += [f'[[launch]]\nname = "launch-{number}"\nalgo = "sha256"\ns2sz = 40\nram = [[{RAM}, {end}]]\n', *placed]
-    return "rim_manifest = 1\n" + "".join(tables)
+    items = [{"name": item.name, "kind": item.kind, "file": item.name, "at": RAM + item.at} for item in release.items]
+    launches = [manifests.launch(f"launch-{number}", s2sz=40, ram=[[RAM, RAM + release.ram + 2 * MIB * number]], item=items)
+                for number in range(release.launches)]
+    return manifests.manifest(*launches, files=[item.name for item in release.items])
 
 
 def write(release: Release, folder: pathlib.Path):

@@ -23,6 +23,7 @@ import sys
 import tempfile
 
 from helpers import SECONDS, TOP
+from helpers.manifests import manifest
 from helpers.rows import all_runs, contents, write
 from helpers.tries import PROCESSORS, program_of, told
 
@@ -145,7 +146,7 @@ def by_itself(program, seed):
     dice = random.Random(seed)
     files = {"large": dice.randbytes(LARGE), "small": dice.randbytes(9_000), "other": dice.randbytes(9_000)}
     version = dice.choice([1, 2, 2])
-    head = f'rim_manifest = {version}\n' + 'file = [{ name = "tree", path = "tree" }, ' + ", ".join(f'{{ name = "{name}", path = "{name}" }}' for name in files) + "]\n"
+    head = manifest(files=["tree", *files], version=version)
     sizes = {name: len(data) for name, data in files.items()}
     launches = [launch(dice, number, sizes, version) for number in range(24)]
     with tempfile.TemporaryDirectory() as folder:

@@ -28,6 +28,7 @@ from collections.abc import Iterator
 from dataclasses import dataclass
 
 from helpers import SECONDS
+from helpers.processes import still_running
 from helpers.tries import Outcome, at_a_time, differs, told
 
 TOP = pathlib.Path(__file__).resolve().parent.parent
@@ -363,22 +364,6 @@ def not_started() -> list[str]:
 
 
 # ---- stops
-
-
-def is_running(number: int) -> bool:
-    try:
-        state = pathlib.Path(f"/proc/{number}/stat").read_text().rpartition(")")[2].split()[0]
-    except OSError:
-        return False
-    return state != "Z"
-
-
-def still_running(numbers: list[int]) -> list[int]:
-    """Which of these run: what is killed may need a moment."""
-    until = time.monotonic() + 5
-    while (left := list(filter(is_running, numbers))) and time.monotonic() < until:
-        time.sleep(0.01)
-    return left
 
 
 def stopped(made: Tree, tool: str, number: signal.Signals, *words: str, script: str) -> list[str]:

@@ -20,7 +20,7 @@ import struct
 import subprocess
 import sys
 
-from helpers import SECONDS, TOP
+from helpers import SECONDS, TOP, manifests
 from helpers.files import image
 from helpers.folders import Folder
 from helpers.tries import at_a_time, differs, program_of, told
@@ -163,21 +163,19 @@ PATHS = {"kernel": "Image", "initrd": "initrd", "dtb": "tree"}
 EDITED = ', bootargs = "console=ttyAMA0", initrd = true, memory = true'
 
 
-def launch(name="vm", memory=512, count=1, initrd_at=0x4800_0000, dtb_at=0x4820_0000, algo="sha256", edited="", files=None, more="", **numbers) -> str:
-    """A launch as rim-manifest writes it; `files` are the names of its kernel, initrd and devicetree."""
+def launch(name="vm", memory=512, count=1, initrd_at=0x4800_0000, dtb_at=0x4820_0000, algo="sha256", edited="", files=None, more="", ram=None, **numbers) -> str:
+    """A launch as rim-manifest writes it; `files` are the names of its kernel, initrd and devicetree, `ram` its regions if it has several."""
     kernel, initrd, dtb = files or ("kernel", "initrd", "dtb")
     keys = {"s2sz": 41, "num_bps": 5, "num_wps": 3, "pmu": True, "pmu_num_ctrs": 6} | numbers
-    recs = ", ".join(["{}"] + ["{ runnable = false }"] * (count - 1))
-    return (f'[[launch]]\nname = "{name}"\nalgo = "{algo}"\n' + "".join(f"{key} = {str(value).lower()}\n" for key, value in keys.items())
-            + f'rec_rule = "runnable"\nram = [[{LOW:#x}, {LOW + memory * MIB:#x}]]\nrec = [{recs}]\n{more}'
-            f'item = [{{ name = "kernel", kind = "kernel", file = "{kernel}", at = 0x40200000 }}, '
-            f'{{ name = "initrd", kind = "initrd", file = "{initrd}", at = {initrd_at:#x} }}, '
-            f'{{ name = "dtb", kind = "dtb", file = "{dtb}", at = {dtb_at:#x}{edited} }}]\n')
+    items = (f'item = [{{ name = "kernel", kind = "kernel", file = "{kernel}", at = 0x40200000 }}, '
+             f'{{ name = "initrd", kind = "initrd", file = "{initrd}", at = {initrd_at:#x} }}, '
+             f'{{ name = "dtb", kind = "dtb", file = "{dtb}", at = {dtb_at:#x}{edited} }}]')
+    return manifests.launch(name, more, items, algo=algo, **keys, rec_rule="runnable", ram=ram or [[LOW, LOW + memory * MIB]],
+                            rec=[{}] + [{"runnable": False}] * (count - 1))
 
 
 def manifest(*launches: str, paths: dict[str, str] | None = None) -> bytes:
-    listed = "".join(f'[[file]]\nname = "{name}"\npath = "{path}"\n' for name, path in (PATHS | (paths or {})).items())
-    return f"rim_manifest = 2\n{listed}{''.join(launches)}".encode()
+    return manifests.manifest(*launches, files=PATHS | (paths or {}), version=2).encode()
 
 
 def match(program: str, here: Folder, *words: str) -> tuple[int, str, str]:
@@ -426,9 +424,8 @@ RAM_PART = "RAM, region 0 from 0x40000000 to 0x44000000: they part at 0x42000000
 
 def by_blocks(program: str, here: Folder, memory: int, size: int, **numbers) -> str:
     """The trace of a machine that logs each block of RAM by itself: the RIMs are the same."""
-    regions = [f"[{at:#x}, {at + size:#x}]" for at in range(LOW, LOW + memory * MIB, size)]
-    whole = launch(memory=memory, **LOW_PLACES, **numbers)
-    here.put("blocks.toml", manifest(whole.replace(f"[[{LOW:#x}, {LOW + memory * MIB:#x}]]", f"[{', '.join(regions)}]")))
+    regions = [[at, at + size] for at in range(LOW, LOW + memory * MIB, size)]
+    here.put("blocks.toml", manifest(launch(ram=regions, **LOW_PLACES, **numbers)))
     return printed(program, here, "trace", "blocks.toml")
 
 
@@ -441,7 +438,7 @@ def split_ram(program: str) -> list[str]:
     that is found, and not the first line."""
     here, wrong = Folder(FILES), []
     here.put("m.toml", manifest(launch(memory=64, **LOW_PLACES)))
-    here.put("parts.toml", manifest(launch(memory=64, **LOW_PLACES).replace("[[0x40000000, 0x44000000]]", "[[0x40000000, 0x41000000], [0x41000000, 0x44000000]]")))
+    here.put("parts.toml", manifest(launch(ram=[[LOW, LOW + 16 * MIB], [LOW + 16 * MIB, LOW + 64 * MIB]], **LOW_PLACES)))
     blocks, half = (by_blocks(program, here, memory, 2 * MIB) for memory in (64, 32))
     pages, more = by_blocks(program, here, 64, 2 * MIB, block_level=3), by_blocks(program, here, 128, 2 * MIB)
     bps, pc = by_blocks(program, here, 64, 2 * MIB, num_bps=4), blocks.replace(" 0000000040200000 0000000041200000", " 0000000040200000 0000000041200008")

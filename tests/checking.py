@@ -21,7 +21,7 @@ import struct
 import subprocess
 import sys
 
-from helpers import PATIENCE
+from helpers import PATIENCE, manifests
 from helpers.files import Writer
 from helpers.folders import Folder
 from helpers.tries import at_a_time, differs, program_of, told
@@ -32,7 +32,7 @@ FAULTS = ("name", "algo", "s2sz")
 
 
 def manifest(*lines: str) -> bytes:
-    return "\n".join(["rim_manifest = 1", *lines]).encode()
+    return manifests.manifest(*lines).encode()
 
 
 def checked(program: str, text: bytes, *words: str) -> list[str]:

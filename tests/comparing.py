@@ -23,9 +23,11 @@ import subprocess
 import sys
 import time
 
-from helpers import SCRIPTS, TOP
+from helpers import SCRIPTS, TOP, manifests
 from helpers.files import tree
 from helpers.folders import Folder
+from helpers.manifests import launch
+from helpers.processes import still_running
 from helpers.tries import at_a_time, differs, program_of, told
 
 START = os.path.join(TOP, "rim-compare")
@@ -36,18 +38,13 @@ OVERLAP = "item = [{ name = 'i', kind = 'raw', file = 'two', at = 0x40000000 }, 
 RAM = "ram = [[0x40000000, 0x40010000]]"
 
 
-def launch(name: str, *lines: str, algo="sha256") -> str:
-    return "\n".join(["[[launch]]", f'name = "{name}"', f'algo = "{algo}"', "s2sz = 33", *lines]) + "\n"
-
-
 LAUNCHES = [launch("a", RAM, ITEM % ("one", "")), launch("b", RAM, ITEM % ("two", ", measured = false"), algo="sha512"),
             launch("c", ITEM % ("two", "")), launch("d")]
-PATHS = {"one": "one", "two": "two", "odd": r'a \"b\"\n'}
+PATHS = {"one": "one", "two": "two", "odd": 'a "b"\n'}
 
 
 def manifest(launches: list[str], paths: dict[str, str]) -> bytes:
-    files = ", ".join(f'{{ name = "{name}", path = "{path}" }}' for name, path in paths.items())
-    return "\n".join(["rim_manifest = 1", f"file = [{files}]", *launches]).encode()
+    return manifests.manifest(*launches, files=paths).encode()
 
 
 def folder(more: dict[str, bytes] | None = None) -> Folder:
@@ -430,19 +427,6 @@ def misbehaving(program: str) -> list[str]:
     return wrong
 
 
-def runs(number: str) -> bool:
-    """Whether a process goes on; one that is killed has no words any more."""
-    for _ in range(100):
-        try:
-            with open(f"/proc/{number}/cmdline", "rb") as file:
-                if not file.read():
-                    return False
-        except OSError:
-            return False
-        time.sleep(0.01)
-    return True
-
-
 def signals(_program: str) -> list[str]:
     """A signal ends the script and all that its program has started, with no line."""
     here, wrong = several(), []
@@ -455,8 +439,8 @@ def signals(_program: str) -> list[str]:
         for _ in range(2):
             ran.send_signal(number)
         out, said = ran.communicate(timeout=20)
-        wrong += differs(number.name, (ran.returncode, out, said, runs(here.read("realms/started").decode().strip())),
-                         (128 + number, "", "", False))
+        wrong += differs(number.name, (ran.returncode, out, said, still_running([int(here.read("realms/started"))])),
+                         (128 + number, "", "", []))
         os.remove(os.path.join(here.path, "realms/started"))
     return wrong
 

@@ -14,6 +14,8 @@ import subprocess
 import sys
 import tempfile
 
+from helpers.tries import told
+
 TOOLS = pathlib.Path(__file__).resolve().parent.parent / "tools"
 sys.path[:0] = [str(TOOLS / "package"), str(TOOLS / "checks")]
 import completions
@@ -169,26 +171,22 @@ def fill(folder):
 
 
 def try_shell(name, folder, files):
-    """A line for each row that a shell has otherwise, and how many rows there are."""
+    """Yields each row with what a shell offers wrongly, and then whether the shell ran a word."""
     ask, rows = ASKED[name]
-    faults = []
     for words, wanted in rows:
         lines = ask(words, folder, files)
-        if not is_right(lines, wanted):
-            faults.append(f"{name}: {' '.join(words)!r} offers {lines}, expected {'paths' if wanted is PATHS else wanted}")
-    if (folder / "made").exists():
-        faults.append(f"{name}: a word of a line or a manifest was run")
-    return faults, len(rows)
+        wrong = [] if is_right(lines, wanted) else [f"it offers {lines}, expected {'paths' if wanted is PATHS else wanted}"]
+        yield f"{name}: {' '.join(words)!r}", wrong
+    yield f"{name}: no word of a line or a manifest is run", ["one was"] * (folder / "made").exists()
 
 
 def read_by_zsh(files):
-    """A line for each file that zsh cannot read, and how many files there are."""
-    names = sorted(path.name for path in files.glob("_*"))
-    return [f"zsh: {line}" for name in names for line in output(["zsh", "-f", "-n", name], files, files)], len(names)
+    """Yields each file with the lines that zsh prints about it."""
+    for name in sorted(path.name for path in files.glob("_*")):
+        yield f"zsh: {name}", output(["zsh", "-f", "-n", name], files, files)
 
 
-def main():
-    faults, count = [], 0
+def outcomes():
     with tempfile.TemporaryDirectory() as top:
         files, folder = pathlib.Path(top) / "files", pathlib.Path(top) / "there"
         completions.write(files)
@@ -198,14 +196,8 @@ def main():
             if not shutil.which(name):
                 print(f"completions.py: {name} is not installed: not asked")
                 continue
-            some, rows = try_shell(name, folder, files) if name in ASKED else read_by_zsh(files)
-            faults += some
-            count += rows
-    for line in faults:
-        print(f"completions.py: {line}")
-    print(f"{count - len(faults)} passed, {len(faults)} failed")
-    return int(bool(faults))
+            yield from try_shell(name, folder, files) if name in ASKED else read_by_zsh(files)
 
 
 if __name__ == "__main__":
-    sys.exit(main())
+    sys.exit(told(outcomes()))

@@ -22,7 +22,7 @@ import tempfile
 
 from helpers import PATIENCE, SECONDS
 from helpers.rows import difference, write as write_files
-from helpers.tries import program_of
+from helpers.tries import program_of, told
 
 import reference
 import replay
@@ -588,15 +588,8 @@ def pages_tests(program):
 
 def main():
     program = program_of(sys.argv[1:])
-    passed, failed = 0, 0
-    for tests in (small_listings, large_tests, pages_tests):
-        for name, wrong in tests(program):
-            passed, failed = passed + (not wrong), failed + bool(wrong)
-            if wrong:
-                print(f"WRONG: {name}: {len(wrong)} differences", *wrong[:SHOWN], sep="\n  ", flush=True)
-    print(f"{passed} passed, {failed} failed")
-    sys.exit(1 if failed or not passed else 0)
+    return told((each for tests in (small_listings, large_tests, pages_tests) for each in tests(program)), SHOWN)
 
 
 if __name__ == "__main__":
-    main()
+    sys.exit(main())

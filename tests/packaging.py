@@ -20,6 +20,8 @@ import sys
 import tarfile
 import tempfile
 
+from helpers.tries import told
+
 TOP = os.path.dirname(os.path.dirname(os.path.realpath(__file__)))
 sys.path.insert(0, os.path.join(TOP, "tools", "checks"))
 
@@ -200,8 +202,7 @@ def run_all() -> int:
     if wrong is None:
         print("packaging.py: dpkg-deb is not installed, or dist/ is not of these sources: not asked\n0 passed, 0 failed")
         return 0
-    print(*(f"WRONG: {line}" for line in wrong), f"{int(not wrong)} passed, {int(bool(wrong))} failed", sep="\n")
-    return int(bool(wrong))
+    return told([("packages", wrong)])
 
 
 if __name__ == "__main__":

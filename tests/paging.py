@@ -28,7 +28,7 @@ import xml.etree.ElementTree as ElementTree
 from dataclasses import replace
 from html.parser import HTMLParser
 
-from helpers import TOP
+from helpers import TOP, manifests
 from helpers.files import image, tree
 from helpers.folders import Folder
 from helpers.tries import at_a_time, differs, program_of, told
@@ -50,12 +50,11 @@ ITEMS = '''item = [{ name = "kernel", kind = "kernel", file = "kernel", at = 0x4
 
 
 def launch(name: str, line="quiet", algo="sha256", end=0x40800000, more="") -> str:
-    return (f'[[launch]]\nname = "{name}"\nalgo = "{algo}"\ns2sz = 40\nram = [[0x40000000, {end:#x}]]\n{ITEMS % json.dumps(line)}\nrec = [{{}}]\n{more}\n')
+    return manifests.launch(name, ITEMS % json.dumps(line), more, algo=algo, s2sz=40, ram=[[0x40000000, end]], rec=[{}])
 
 
 def manifest(*launches: str, kernel="kernel") -> bytes:
-    return "".join([f'rim_manifest = 2\nfile = [{{ name = "kernel", path = {json.dumps(kernel)} }}, {{ name = "tree", path = "tree" }}]\n',
-                    *launches]).encode()
+    return manifests.manifest(*launches, files={"kernel": kernel, "tree": "tree"}, version=2).encode()
 
 
 FILES = {"kernel": image(1 << 20, length=3 * 4096 + 5), "tree": tree([(0x40000000, 0x40800000)], length=None),

@@ -21,8 +21,9 @@ import subprocess
 import sys
 import tempfile
 
-from helpers import SECONDS, TOP
+from helpers import SECONDS
 from helpers.rows import EXPECTED, all_runs, contents, difference, write
+from helpers.tries import PROCESSORS, program_of, told
 
 import reference
 
@@ -159,30 +160,29 @@ def run_all(program, runs):
     return outcomes
 
 
+def outcomes(program, groups):
+    """Yields the outcomes of groups of runs as they come. Then prints how many were compared with tools/oracles/reference.py."""
+    asked = []
+    with concurrent.futures.ProcessPoolExecutor(PROCESSORS) as pool:
+        for done in pool.map(run_all, [program] * len(groups), groups.values()):
+            for name, lines, is_asked in done:
+                asked.append(is_asked)
+                yield name, lines
+    print(f"{sum(asked)} of {len(asked)} runs compared with tools/oracles/reference.py")
+
+
 def main():
     parser = argparse.ArgumentParser(usage="tests/run.py [--only NAME] [PROGRAM]")
     parser.add_argument("--only", default="")
-    parser.add_argument("program", nargs="?", default=os.path.join(TOP, "crates", "rim", "out", "rim"))
+    parser.add_argument("program", nargs="?")
     given = parser.parse_args()
-    program = os.path.abspath(given.program)
-    if not os.path.exists(program):
-        raise SystemExit(f"{given.program} is not built")
+    program = program_of([given.program] if given.program else [])
     groups = {}
     for run in all_runs(program):
         if given.only in run["name"]:
             groups.setdefault(repr(sorted(run["files"].items())), []).append(run)
-    outcomes = []
-    with concurrent.futures.ProcessPoolExecutor(len(os.sched_getaffinity(0))) as pool:
-        for done in pool.map(run_all, [program] * len(groups), groups.values()):
-            outcomes += done
-            for name, lines, _ in done:
-                if lines:
-                    print(f"WRONG: {name}", *lines, sep="\n  ", flush=True)
-    failed = sum(bool(lines) for _, lines, _ in outcomes)
-    print(f"{sum(is_asked for _, _, is_asked in outcomes)} of {len(outcomes)} runs compared with tools/oracles/reference.py")
-    print(f"{len(outcomes) - failed} passed, {failed} failed")
-    sys.exit(1 if failed or not outcomes else 0)
+    return told(outcomes(program, groups))
 
 
 if __name__ == "__main__":
-    main()
+    sys.exit(main())

@@ -23,13 +23,14 @@ import signal
 import subprocess
 import sys
 import time
+from collections.abc import Iterator
 from dataclasses import dataclass, field
 
-from helpers import PATIENCE
+from helpers import PATIENCE, manifests
 from helpers.files import image, tree
 from helpers.folders import Folder
 from helpers.guests import START, replaced
-from helpers.tries import differs, program_of, told, tried
+from helpers.tries import Outcome, differs, program_of, told, tried
 
 from finder.axes import Axis, best_first, count_of
 from outside import measurement, parameters
@@ -166,16 +167,12 @@ def manifest(machine: Machine) -> str:
         ram, steps = about.ram, [*(f"ram {number}" for number in range(len(about.ram))), *steps]
     recs = ["rec 0", "rec 1"]
     steps = recs + steps if machine.recs_first else steps + recs
-    items = ",\n".join(f'{{ name = "{name}", kind = "{kind}", file = "{file}", at = {at}, size = {size} }}'
-                       for some in blobs.values() for name, kind, file, at, size, _, _ in some)
-    level = ways["block_level"] if ways["block_level"] != "below" else 1 if machine.width >= 44 else 2 if machine.width >= 35 else 3
-    pc, x = (LOW, "") if has_stub else (about.kernel, f'"{about.dtb:#x}"')
-    keys = "".join(f"{key} = {str(value).lower()}\n" for key, value in machine.values.items())
-    heads = "".join(f'[[file]]\nname = "{name}"\npath = "{path}"\n' for name, path in (
-        ("kernel", "Image"), ("initrd", "initrd"), ("dtb", "used" if ways["dtb_pages"] == "used" else "loaded"), ("stub", "stub"), ("zeros", "zeros")))
-    return (f'rim_manifest = 2\n{heads}[[launch]]\nname = "a"\nalgo = "{ways["hash"]}"\ns2sz = {machine.width}\n{keys}'
-            f'block_level = {level}\nrec_rule = "{ways["rec_rule"]}"\nram = {[list(each) for each in ram]}\nitem = [\n{items}]\n'
-            f'rec = [{{ pc = "{pc:#x}", x = [{x}] }}, {{ runnable = false }}]\nsteps = {steps}\n').replace("'", '"')
+    items = [{"name": name, "kind": kind, "file": file, "at": at, "size": size} for some in blobs.values() for name, kind, file, at, size, _, _ in some]
+    level = int(ways["block_level"]) if ways["block_level"] != "below" else 1 if machine.width >= 44 else 2 if machine.width >= 35 else 3
+    pc, x = (LOW, []) if has_stub else (about.kernel, [f"{about.dtb:#x}"])
+    paths = {"kernel": "Image", "initrd": "initrd", "dtb": "used" if ways["dtb_pages"] == "used" else "loaded", "stub": "stub", "zeros": "zeros"}
+    return manifests.manifest(manifests.launch("a", algo=ways["hash"], s2sz=machine.width, **machine.values, block_level=level, rec_rule=ways["rec_rule"],
+                                               ram=ram, item=items, rec=[{"pc": f"{pc:#x}", "x": x}, {"runnable": False}], steps=steps), files=paths, version=2)
 
 
 def stub(machine: Machine) -> bytes:
@@ -272,28 +269,24 @@ def simulated(program: str, vmm: str, seed: int, kind: Kind, limit=""):
         return is_told(machine, folder.toml("settled.toml"), out), True, tried_, seconds
 
 
-def machines(program: str, count: int, seed: int, limit: str, kinds: list[Kind]) -> int:
-    """Simulates many machines, and prints what came of them."""
-    passed = failed = 0
+def machines(program: str, count: int, seed: int, limit: str, kinds: list[Kind]) -> Iterator[Outcome]:
+    """Simulates many machines, and prints how long each took."""
     for kind in kinds:
         found, tries, times = 0, [], []
         for number in range(count):
             vmm = list(LAYOUTS)[number % len(LAYOUTS)]
             wrong, was_found, tried_, seconds = simulated(program, vmm, seed + number, kind, limit)
-            found, failed, passed = found + was_found, failed + bool(wrong), passed + (not wrong)
+            found += was_found
             if was_found:
                 tries.append(tried_)
             times.append(seconds)
-            if wrong:
-                print(f"WRONG: {vmm} {seed + number} {kind.value}", *wrong, sep="\n  ", flush=True)
+            yield f"{vmm} {seed + number} {kind.value}", wrong
             print(f"{number} {vmm} {kind.value} {was_found} {tried_} {seconds:.1f}", flush=True)
         tries.sort()
         times.sort()
         middle = f"launches tried: half within {tries[len(tries) // 2]:,}, at most {tries[-1]:,}; " if tries else ""
         print(f"{kind.value}: {found} of {len(times)} found; {middle}"
               f"seconds: half within {times[len(times) // 2]:.1f}, at most {times[-1]:.1f}, {sum(times):.0f} in all", flush=True)
-    print(f"{passed} passed, {failed} failed")
-    return int(failed > 0)
 
 
 # ---- tests
@@ -588,7 +581,7 @@ def main():
     program = program_of(said.program)
     os.environ["RIM"] = program
     if said.machines:
-        return machines(program, said.machines, said.seed, said.limit, [Kind[each.upper()] for each in said.kinds.split(",")])
+        return told(machines(program, said.machines, said.seed, said.limit, [Kind[each.upper()] for each in said.kinds.split(",")]))
     outcomes = [(each.__name__, tried(each, program)) for each in (
         best_first_is_right, the_file, values_of_files, forms, narrowed, terminal, stopped, none_found, wrong_words, rows, few)]
     return told(outcomes)

@@ -18,7 +18,8 @@ import os
 import sys
 import tempfile
 
-from helpers import TOP
+from helpers import TOP, manifests
+from helpers.tries import program_of, told
 
 import failing
 from refusing import Refused, Refuser
@@ -27,12 +28,12 @@ ITEM = 'item = [{ name = "x", kind = "raw", file = "f", at = 0x40000000 }]'
 
 
 def launch(name, algo="sha256", more=""):
-    return f'[[launch]]\nname = "{name}"\nalgo = "{algo}"\ns2sz = 33\n{more}\n'
+    return manifests.launch(name, more, algo=algo)
 
 
-def release(size, *launches):
+def release(size, *launches, **files):
     """A manifest of a file, which has so many bytes, and of launches. Such a file is made by whoever reads the path."""
-    return "\n".join([f'rim_manifest = 2\n[[file]]\nname = "f"\npath = "{size}"', *launches])
+    return manifests.manifest(*launches, files={"f": str(size)} | files, version=2)
 
 
 RAM = "ram = [[0x40000000, 0x40200000]]\n"
@@ -47,9 +48,6 @@ item = [
 ]
 rec = [{}, { runnable = false }]
 rec_rule = "runnable"
-[[file]]
-name = "tree"
-path = "tree"
 """
 RELEASES = {
     "two GiB of RAM": release(4096, """[[launch]]
@@ -64,7 +62,7 @@ item = [{ name = "x", kind = "raw", file = "f", at = 0x40000000, measured = fals
     "one algorithm": release(8192, launch("a", more=RAM + ITEM), launch("b", more=RAM + ITEM)),
     "a page twice": release(4096, launch("a"), launch("b", more=TWO), launch("c")),
     "alike": release(600 * 4096, launch("a", more=ALIKE), launch("b", more=ALIKE + "\nrec = [{}]"), launch("c", more=ALIKE + "\nrec = [{}, {}]")),
-    "all kinds": release(5000, launch("a", more=ALL_KINDS)),
+    "all kinds": release(5000, launch("a", more=ALL_KINDS), tree="tree"),
 }
 # Releases whose first launch is refused.
 REFUSED = {
@@ -200,32 +198,31 @@ def measured(refuser, program, where, kind, count):
     return [line_of(what, "calls", answers)], wrong
 
 
-def main():
-    program, calls = (sys.argv[1:] + [None] * 2)[:2]
-    program = os.path.abspath(program or os.path.join(TOP, "crates/rim/out/rim"))
-    calls = os.path.abspath(calls or os.path.join(TOP, "crates/rim_starved/out/rim_starved"))
-    passed = failed = 0
+def outcomes(program, calls):
+    """Yields each call on each of its inputs, and `rim measure`, with what is wrong. Prints how many requests were refused and how the calls ended."""
     with tempfile.TemporaryDirectory() as folder, concurrent.futures.ThreadPoolExecutor(os.cpu_count()) as pool:
         refuser = Refuser(folder)
         given = inputs(program, folder)
         named = Refuser.plain([calls], folder).decode().split()
         if set(named) != set(BYTES):
-            print("calls without an input, or inputs without a call:", *sorted(set(named) ^ set(BYTES)))
-            failed += 1
+            yield "calls without an input, or inputs without a call", sorted(set(named) ^ set(BYTES))
         pairs = [(call, name) for call, names in BYTES.items() for name in names]
         runs = [pool.submit(tried, refuser, calls, given, number, *pair) for number, pair in enumerate(pairs)]
-        for done in runs:
+        for (call, name), done in zip(pairs, runs):
             said, wrong = done.result()
-            print(*said, *wrong, sep="\n", flush=True)
-            passed, failed = passed + (not wrong), failed + bool(wrong)
+            print(*said, sep="\n", flush=True)
+            yield f"{call}, {name}", wrong
         where = os.path.join(folder, "measured")
         put_release(where, "both algorithms")
         for kind, count in failing.kinds():
             said, wrong = measured(refuser, program, where, kind, count)
-            print(*said, *wrong, sep="\n", flush=True)
-            passed, failed = passed + (not wrong), failed + bool(wrong)
-    print(f"{passed} passed, {failed} failed")
-    return int(failed > 0)
+            print(*said, sep="\n", flush=True)
+            yield f"rim measure, {kind}, {count}", wrong
+
+
+def main():
+    program, calls = sys.argv[1:2], sys.argv[2] if len(sys.argv) > 2 else os.path.join(TOP, "crates", "rim_starved", "out", "rim_starved")
+    return told(outcomes(program_of(program), os.path.abspath(calls)))
 
 
 if __name__ == "__main__":

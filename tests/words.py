@@ -27,14 +27,14 @@ LAUNCH = {"name": "a", "algo": "sha256", "s2sz": 33, "ram": [[0, 1 << 30]], "rec
 
 
 def fault_of(program: str, item: list[dict], **changes) -> str:
-    """The faults of a manifest whose launch has these items, and keys with other values."""
+    """Returns the faults of a manifest whose launch has these items and changed keys."""
     table = {"rim_manifest": 2, "file": [{"name": "f", "path": "f"}], "launch": [LAUNCH | {"item": item} | changes]}
     ran = subprocess.run([program, "check", "/dev/stdin"], input=whole(table), capture_output=True, text=True, timeout=SECONDS, check=False)
     return ran.stdout + ran.stderr
 
 
 def expected(fault: str) -> list[str]:
-    """The words that a fault says are expected."""
+    """Returns the words that a fault lists as expected."""
     return re.findall(r'"(\w+)"', fault.partition("expected ")[2])
 
 
@@ -55,7 +55,7 @@ def enums_of(schema: str) -> list[list[str]]:
 
 
 def of_kinds(program: str, kinds: list[str]) -> list[str]:
-    """The scripts have all kinds, and know of which a launch has one item at most."""
+    """Checks that the scripts have all kinds, and the kinds of which a launch has at most one item."""
     single = [kind for kind in kinds if "two-names" in fault_of(program, [ITEM | {"kind": kind}, ITEM | {"name": "2", "kind": kind}])]
     return (differs("matcher.launch.KINDS", list(launch.KINDS), kinds) + differs("vmm.realm.KINDS", list(realm.KINDS), single)
             + differs("kinds among vmm.ways.BLOBS", [each for each in ways.BLOBS if each in kinds], single))

@@ -16,8 +16,9 @@ import threading
 import time
 from collections.abc import Callable, Iterator
 
-from helpers import MIB, PATIENCE, SECONDS
+from helpers import MIB, PATIENCE, SECONDS, manifests
 from helpers.folders import Folder
+from helpers.manifests import manifest
 from helpers.tries import at_a_time, differs, program_of, told
 
 ENTRY, RUN, BASE = 1 << 12, 1 << 21, 0x4000_0000
@@ -28,8 +29,7 @@ MOST = 4
 
 def launch(name: str, regions: list[tuple[int, int]], algo="sha256", more="") -> str:
     """A launch with these regions of RAM, whose entries have 4 KiB: where each begins, and how many entries it has."""
-    ram = ", ".join(f"[0x{base:x}, 0x{base + entries * ENTRY:x}]" for base, entries in regions)
-    return f'[[launch]]\nname = "{name}"\nalgo = "{algo}"\ns2sz = 40\nblock_level = 3\nram = [{ram}]\n{more}'
+    return manifests.launch(name, more, algo=algo, s2sz=40, block_level=3, ram=[[base, base + entries * ENTRY] for base, entries in regions])
 
 
 def apart(count: int, entries: int, algos=("sha256",)) -> str:
@@ -97,7 +97,7 @@ def more_time(program: str, folder: Folder) -> list[str]:
 
 def same(program: str, text: str) -> list[str]:
     """More workers give the same report, and take little more time where there are more launches."""
-    folder = Folder({"manifest.toml": b"rim_manifest = 1\n" + text.encode()})
+    folder = Folder({"manifest.toml": manifest(text).encode()})
     alone = run(program, folder, "1")[1]
     wrong = [] if alone.startswith(b"rim-report 1\n") and b"refused" not in alone else [f"by one worker: {alone[:200]!r}"]
     wrong += [line for workers in WORKERS for line in differs(f"by {workers}", run(program, folder, workers)[1], alone)]
@@ -109,7 +109,7 @@ def same(program: str, text: str) -> list[str]:
 
 def least_time(program: str, text: str) -> float:
     """The least processors' time of some runs by one worker, in seconds."""
-    folder = Folder({"manifest.toml": b"rim_manifest = 1\n" + text.encode()})
+    folder = Folder({"manifest.toml": manifest(text).encode()})
     return min(run(program, folder, "1")[0] for _ in range(3))
 
 
@@ -171,7 +171,7 @@ def with_files(folder: Folder, each: list) -> None:
                 file.truncate(what)
         elif what != Gone:
             folder.put(f"f{number}", random.Random(number).randbytes(what))
-    folder.put("manifest.toml", b"rim_manifest = 1\n" + manifest_of(len(each)).encode())
+    folder.put("manifest.toml", manifest(manifest_of(len(each))).encode())
 
 
 def read_alike(program: str, sizes_of_files: list[int], pipe: int | None = None) -> list[str]:
@@ -211,7 +211,7 @@ def first_unread(program: str, each: list, fault: str) -> list[str]:
 
 def most_threads(program: str, processors: set[int]) -> int:
     """How many threads a run by 64 workers has at most, which may run on these processors."""
-    folder = Folder({"manifest.toml": b"rim_manifest = 1\n" + apart(16, 65_536).encode()})
+    folder = Folder({"manifest.toml": manifest(apart(16, 65_536)).encode()})
     ran = subprocess.Popen([program, "measure", "--workers", "64", "manifest.toml"], cwd=folder.path, stdout=subprocess.DEVNULL,
                            preexec_fn=lambda: os.sched_setaffinity(0, processors))
     most, end = 0, time.monotonic() + SECONDS

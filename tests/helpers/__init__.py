@@ -4,6 +4,9 @@ files      devicetrees and kernels
 guests     a guest of each hypervisor: its files and words, and programs that stand in for hypervisors
 folders    a folder with files, in which a script is started
 tries      what came of tries, as lines and as the last line of a test
+manifests  manifests, of tables and of launches as texts
+commands   the commands of a document
+processes  which processes run
 in_c       programs in C that are linked with the library
 rows       the files of cases/ and rows/, as runs of the program
 """

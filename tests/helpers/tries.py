@@ -1,7 +1,7 @@
 """What came of tries: each has a name, and what is wrong with it as lines."""
 import concurrent.futures
 import os
-from collections.abc import Callable, Iterable, Sequence
+from collections.abc import Callable, Iterable
 
 from . import TOP
 
@@ -37,11 +37,14 @@ def at_a_time(tries: Iterable[tuple[str, Callable[[], list[str]]]], count: int =
         return [(name, done.result()) for name, done in waiting]
 
 
-def told(outcomes: Sequence[Outcome]) -> int:
-    """Prints what is wrong, and how much passed and failed as the last line. The status of the test."""
+def told(outcomes: Iterable[Outcome], most: int | None = None) -> int:
+    """Prints what is wrong as it comes, at most this many lines of each try, and how many passed and failed as the last line. Returns the status
+    of the test."""
+    count = failed = 0
     for name, wrong in outcomes:
+        count, failed = count + 1, failed + bool(wrong)
         if wrong:
-            print(f"WRONG: {name}", *wrong, sep="\n  ")
-    failed = sum(bool(wrong) for _, wrong in outcomes)
-    print(f"{len(outcomes) - failed} passed, {failed} failed")
-    return int(failed > 0 or not outcomes)
+            more = [] if most is None or len(wrong) <= most else [f"and {len(wrong) - most} more"]
+            print(f"WRONG: {name}", *wrong[:most], *more, sep="\n  ", flush=True)
+    print(f"{count - failed} passed, {failed} failed")
+    return int(failed > 0 or not count)

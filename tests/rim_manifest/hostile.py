@@ -10,6 +10,7 @@ import time
 from helpers import SECONDS
 from helpers.folders import Folder
 from helpers.guests import QEMU, STAND_IN, START, TREES, WITH_TREE, replaced, without
+from helpers.processes import still_running
 from helpers.tries import differs
 
 from .options import OTHERS
@@ -62,17 +63,8 @@ def signals(_program: str):
             said = ran.communicate(timeout=30)[0]
             wrong += differs(number.name, (ran.returncode, said, time.monotonic() - begun < 5), (128 + number, b"", True))
             wrong += differs(f"{number.name}: names", folder.names(), before)
-            wrong += [f"{number.name}: a child is left"] * runs(int(folder.read("child")))
+            wrong += differs(f"{number.name}: children", still_running([int(folder.read("child"))]), [])
     return wrong
-
-
-def runs(process: int) -> bool:
-    """Whether a process runs: one that has ended may still be waited for."""
-    try:
-        with open(f"/proc/{process}/stat", encoding="ascii") as file:
-            return file.read().rpartition(")")[2].split()[0] != "Z"
-    except OSError:
-        return False
 
 
 def full(_program: str):

@@ -14,7 +14,11 @@ import subprocess
 import sys
 import tempfile
 
-RIM = os.path.join(os.path.dirname(os.path.dirname(os.path.dirname(os.path.abspath(__file__)))), "rim")
+TOP = os.path.dirname(os.path.dirname(os.path.dirname(os.path.abspath(__file__))))
+RIM = os.path.join(TOP, "rim")
+sys.path.insert(0, os.path.join(TOP, "tests"))
+
+from helpers.tries import told  # noqa: E402, the path is set above
 
 SOURCES = {
     "root alone": "/ { };",
@@ -73,6 +77,17 @@ def made(folder):
         print("skipped: QEMU's devicetrees, since there is no qemu-system-aarch64")
 
 
+def outcomes(libfdt):
+    """Yields each devicetree with how `rim fdt` and libfdt differ."""
+    with tempfile.TemporaryDirectory() as folder:
+        for name, path in list(made(folder)) + [(path, path) for path in sys.argv[1:]]:
+            with open(path, "rb") as file:
+                data = file.read()
+            ran = subprocess.run([RIM, "fdt", path], capture_output=True, text=True)
+            is_same = ran.returncode == 0 and ran.stdout == expected(libfdt, data)
+            yield name, [] if is_same else [f"differs: {ran.returncode} {ran.stderr.strip()}"]
+
+
 def main():
     try:
         import libfdt
@@ -82,20 +97,7 @@ def main():
     if not shutil.which("dtc"):
         print("skipped: there is no dtc")
         return 0
-    failed = passed = 0
-    with tempfile.TemporaryDirectory() as folder:
-        files = list(made(folder)) + [(path, path) for path in sys.argv[1:]]
-        for name, path in files:
-            with open(path, "rb") as file:
-                data = file.read()
-            ran = subprocess.run([RIM, "fdt", path], capture_output=True, text=True)
-            if ran.returncode == 0 and ran.stdout == expected(libfdt, data):
-                passed += 1
-            else:
-                failed += 1
-                print(f"{name}: differs: {ran.returncode} {ran.stderr.strip()}")
-    print(f"{passed} passed, {failed} failed")
-    return 1 if failed else 0
+    return told(outcomes(libfdt))
 
 
 sys.exit(main())

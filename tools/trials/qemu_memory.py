@@ -26,6 +26,10 @@ import sys
 import tempfile
 
 TOP = os.path.dirname(os.path.dirname(os.path.dirname(os.path.abspath(__file__))))
+sys.path.insert(0, os.path.join(TOP, "tests"))
+
+from helpers.tries import told  # noqa: E402, the path is set above
+
 PAGE = 4096
 # How much memory is saved and read at a time.
 STRETCH = 64 << 20
@@ -159,6 +163,17 @@ def listing_of(folder: str, manifest: str, name: str) -> Listing:
     return Listing(listed.stdout.splitlines() or [listed.stderr])
 
 
+def outcomes(record, said):
+    """Yields each launch with its differences."""
+    for launch in record["launches"]:
+        if said.only in launch["name"]:
+            listing = listing_of(said.folder, launch["manifest"], launch["name"])
+            wrong = compare(words_of(launch, said.qemu, said.folder), listing)
+            size = sum(end - base for base, end in listing.ram) >> 20
+            print(f"{launch['name']}: {len(listing.pages)} measured pages, {size} MiB of RAM: {'WRONG' if wrong else 'the same'}", flush=True)
+            yield launch["name"], wrong
+
+
 def main():
     parser = argparse.ArgumentParser(description=__doc__, formatter_class=argparse.RawDescriptionHelpFormatter)
     parser.add_argument("--qemu", default="qemu-system-aarch64")
@@ -169,19 +184,7 @@ def main():
         record = json.load(file)
     if record["hypervisor"] != "qemu":
         raise SystemExit(f"{said.folder} is of {record['hypervisor']}, expected one of qemu")
-    passed = failed = 0
-    for launch in record["launches"]:
-        if said.only not in launch["name"]:
-            continue
-        listing = listing_of(said.folder, launch["manifest"], launch["name"])
-        wrong = compare(words_of(launch, said.qemu, said.folder), listing)
-        size = sum(end - base for base, end in listing.ram) >> 20
-        print(f"{launch['name']}: {len(listing.pages)} measured pages, {size} MiB of RAM: {'WRONG' if wrong else 'the same'}", flush=True)
-        for line in wrong[:10] + ([f"and {len(wrong) - 10} more"] if len(wrong) > 10 else []):
-            print("  " + line)
-        passed, failed = passed + (not wrong), failed + bool(wrong)
-    print(f"{passed} passed, {failed} failed")
-    return int(failed > 0 or not passed)
+    return told(outcomes(record, said), 10)
 
 
 if __name__ == "__main__":
