@@ -5,7 +5,7 @@
 
 FOLDER has the libraries that tools/package/library.py makes, as dist/ has; PROGRAM is FOLDER/rim-x86_64-v2 where it is not given.
 
-- The names that library/rim.h declares are just those that each library has for a program. Its codes are just those of crates/rim_calls and of
+- The names that library/rim.h declares are just those that each library has for a program. Its codes are just those of crates/rim_c and of
   the program's words.
 - The C in front of the proved calls passes on what it is given, and refuses null pointers: tests/library/passing.c.
 - Each case of tests/ that asks what the library answers has the program's bytes and its status as the code, or its fault: with too little room,
@@ -42,7 +42,7 @@ from helpers.in_c import (C_FLAGS, GUARDED, HERE, INCLUDE, SANITIZERS, SMALL, VA
 from helpers.rows import all_runs, contents, difference, write
 from helpers.tries import Outcome, at_a_time, differs, told
 
-CODES = pathlib.Path(TOP, "crates", "rim_calls", "src", "codes.rt")
+CODES = pathlib.Path(TOP, "crates", "rim_c", "src", "codes.rt")
 PAGES = (pathlib.Path(TOP, "docs", "LIBRARY.md"),)
 # How many calls are made with guarded memory, each way.
 GUARDED_CALLS = 1000
@@ -100,7 +100,7 @@ def name_of(word: str) -> str:
 
 
 def codes_of_crate() -> dict[str, int]:
-    """The codes of crates/rim_calls by the header's names, and those of answers, which are the program's statuses or of the C in front."""
+    """The codes of crates/rim_c by the header's names, and those of answers, which are the program's statuses or of the C in front."""
     text, words = library.text_of(CODES), words_of_faults()
     constants = {name: int(number) for name, number in re.findall(r"pub const (\w+): u32 = (\d+);", text)}
     found = {"RIM_OK": 0, "RIM_REFUSED": 1, "RIM_NULL": 2, "RIM_FAULTY": 3} | {f"RIM_{name}": number for name, number in constants.items()}

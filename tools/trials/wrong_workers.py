@@ -159,7 +159,7 @@ BODIES = [
     (
         "the number of workers in the words is not used",
         "rim_cli/src/answer.rt",
-        [("            measure(rt, alloc, gate, opener, path, workers, format, aside)\n", "            measure(rt, alloc, gate, opener, path, workers.min(1), format, aside)\n")],
+        [("            measure(rt, alloc, gate, opener, path, workers, format, explain)\n", "            measure(rt, alloc, gate, opener, path, workers.min(1), format, explain)\n")],
         "rim_tests::workers",
     ),
     (
@@ -167,8 +167,8 @@ BODIES = [
         "rim_cli/src/answer.rt",
         [
             (
-                "            measure(rt, alloc, gate, opener, path, workers, format, aside)\n",
-                "            let _ = gate;\n            measure(rt, alloc, &mut job_workers::FreeGate, opener, path, workers, format, aside)\n",
+                "            measure(rt, alloc, gate, opener, path, workers, format, explain)\n",
+                "            let _ = gate;\n            measure(rt, alloc, &mut job_workers::FreeGate, opener, path, workers, format, explain)\n",
             )
         ],
         "rim_tests::workers",

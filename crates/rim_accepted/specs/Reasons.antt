@@ -1,5 +1,5 @@
 -- Why a launch is refused, with what the refusing check looked at. This project's choice.
-use Rattle.std.specs.Prelude.{◌≡◌, ℕ, List, Option, None, Result, Ok, Err}
+use Rattle.std.specs.Prelude.{◌≡◌, ℕ, List, Option, None, Ok, Err}
 use Rattle.ipa_layout.specs.Layout.{PlacedData, laid_out, places}
 use Rattle.ipa_layout.specs.Reason.{fault_of}
 use Rattle.rim_launch.specs.LaunchData.{LaunchData}
@@ -7,8 +7,7 @@ use Rattle.rmi_list.specs.Granules.{TakesGranules}
 use Rattle.rmi_list.specs.Reason.{IsReason, list_fault_of}
 use Rattle.rmi_list.specs.declared.fault.ListFault.{ListFault}
 use Rattle.rmi_list.specs.declared.fault.ListFault.TheVariants.{PoolEnd}
-use Rattle.rim_accepted.specs.Accepted.{accepted_of, rim_for}
-use Rattle.rim_accepted.specs.declared.accepted.AcceptedLaunch.{AcceptedLaunch}
+use Rattle.rim_accepted.specs.Accepted.{rim_for}
 use Rattle.rim_accepted.specs.declared.audit_fault.AuditFault.{AuditFault}
 use Rattle.rim_accepted.specs.declared.audit_fault.AuditFault.TheVariants as fault
 use Rattle.rim_accepted.specs.declared.reason.LaunchReason.{LaunchReason}
@@ -33,8 +32,3 @@ HasReason l files (Lists p why count) = (places l files ≡ Ok p) × IsReason l 
 pub record IsRefusedFor (l : LaunchData) (files : List (List ℕ)) (why : LaunchReason) : Type 0 where
   pub refused : rim_for l files ≡ Err (audit_fault_of why)
   pub reason : HasReason l files why
-
--- a launch is accepted, with its place, or refused for this reason
-abbrev pub IsReasoned : LaunchData → List (List ℕ) → Result AcceptedLaunch LaunchReason → Type 0
-IsReasoned l files (Ok a) = accepted_of l files ≡ Ok a.placed
-IsReasoned l files (Err why) = IsRefusedFor l files why

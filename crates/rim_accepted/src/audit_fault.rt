@@ -48,7 +48,7 @@ impl<T: Drop> From<AllocFailed<T>> for AuditFault {
 }
 
 impl AuditFault {
-    ghost use Rattle.std.specs.Prelude.{◌≡◌, ◌≢◌, IfOk, OnErr};
+    ghost use Rattle.std.specs.Prelude.{◌≡◌};
 
     /// The fault's word, as a report prints it.
     pub fn kind(&self) -> &'static str
@@ -58,18 +58,6 @@ impl AuditFault {
             AuditFault::Layout(fault) => layout_kind(*fault),
             AuditFault::List(fault) => list_kind(*fault),
             AuditFault::NoMemory => "no-memory",
-        }
-    }
-
-    /// The fault, where it is the launch's own; or want of memory, which is no fault of the launch.
-    pub fn own_fault(self) -> Result<AuditFault, NoMemory>
-        ensures own { IfOk result (λ own. (own ≡ self) × (own ≢ fault.NoMemory)) }
-        ensures memory { OnErr result (self ≡ fault.NoMemory) }
-    {
-        match self {
-            AuditFault::NoMemory => Err(NoMemory),
-            AuditFault::Layout(_) => Ok(self),
-            AuditFault::List(_) => Ok(self),
         }
     }
 }

@@ -9,28 +9,23 @@ ghost use Rattle.rim_accepted.specs.Devicetree.{devicetree_in, devicetree_number
 use crate::accepted::{AcceptedLaunch, accept};
 use crate::audit_fault::AuditFault;
 use crate::loaded::LoadedLaunch;
-use crate::reason::Reasons;
 use refusal::NoMemory;
 use rim_launch::{Launch, Role};
 use std::alloc::Global;
 
 /// The devicetree of a launch, as it is placed: the bytes of its file, or the edited ones. `None` where the launch has no devicetree.
-/// A launch that is refused has none to give: its first refusal is the answer, and `reasons` is given why.
+/// A launch that is refused has no devicetree to give, and its first refusal is the error.
 #[tactic(auto, unfolding(crate::specs::Devicetree::devicetree_of))]
-pub fn placed_devicetree<W: Reasons>(
+pub fn placed_devicetree(
     alloc: Global,
     loaded: LoadedLaunch<'_>,
-    reasons: &mut W,
 ) -> Result<Option<Vec<u8>>, AuditFault>
     ensures { Answers AuditFault.NoMemory (option_map (λ bytes. bytes.items)) result
         (devicetree_of loaded.entry.launch.now.launch (bytes_of_files loaded.entry.files.now)) }
 {
     let accepted = match accept(alloc, loaded)? {
         Ok(accepted) => accepted,
-        Err(reason) => {
-            reasons.refused(loaded.launch, loaded.files, &reason);
-            return Err(reason.fault());
-        }
+        Err(refused) => return Err(refused.fault()),
     };
     match devicetree_bytes(&accepted) {
         Some(bytes) => Ok(Some(copied(alloc, bytes)?)),

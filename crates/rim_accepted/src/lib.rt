@@ -8,6 +8,7 @@ mod laws;
 mod lines;
 mod loaded;
 mod reason;
+mod refused;
 mod release;
 mod text;
 
@@ -17,6 +18,7 @@ pub use devicetree::placed_devicetree;
 pub use laws::{a_line_says_what_a_monitor_holds, devicetrees_are_measured};
 pub use lines::{push_digest, push_line, push_lines, push_rim};
 pub use loaded::{Files, LoadedLaunch, LoadedRelease};
-pub use reason::{LaunchReason, Reasons, Unasked};
+pub use reason::LaunchReason;
+pub use refused::RefusedLaunch;
 pub use release::{AcceptedRelease, accept_all};
-pub use text::{Report, has_refused, refused_report};
+pub use text::{Report, has_refused, refused_line};

@@ -1,7 +1,6 @@
 //! Why a launch is refused, with all that the refusing check looked at.
 use crate::audit_fault::AuditFault;
 use ipa_layout::{LayoutReason, Placed};
-use rim_manifest::NamedLaunch;
 use rmi_list::ListReason;
 
 /// Why a launch is refused.
@@ -31,18 +30,4 @@ impl LaunchReason {
             LaunchReason::List { reason, .. } => AuditFault::List(reason.fault()),
         }
     }
-}
-
-/// What is given why launches are refused. No clause speaks of it, so what a call answers does not depend on it.
-pub trait Reasons {
-    /// A launch, over these files, is refused for this reason.
-    fn refused(&mut self, launch: &NamedLaunch, files: &[Vec<u8>], reason: &LaunchReason);
-}
-
-/// Nobody asks why.
-#[derive(Clone, Copy, Debug)]
-pub struct Unasked;
-
-impl Reasons for Unasked {
-    fn refused(&mut self, _launch: &NamedLaunch, _files: &[Vec<u8>], _reason: &LaunchReason) {}
 }

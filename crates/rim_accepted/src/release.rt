@@ -2,11 +2,12 @@
 ghost use Rattle.std.specs.Prelude.{◌≡◌, IfOk, length, option_and_then, option_map};
 ghost use Rattle.std.specs.List.{slice_get};
 ghost use Rattle.ipa_layout.specs.Files.{bytes_of_files};
-ghost use Rattle.rim_accepted.specs.Outcomes.{place_in};
+ghost use Rattle.rim_accepted.specs.Outcomes.{place_in, placed_before};
 
 use crate::accepted::{AcceptedLaunch, accept};
 use crate::loaded::{LoadedLaunch, LoadedRelease};
 use crate::reason::LaunchReason;
+use crate::refused::RefusedLaunch;
 use ipa_layout::Placed;
 use refusal::NoMemory;
 use rim_manifest::{NamedLaunch, Release};
@@ -19,7 +20,7 @@ use std::marker::Model;
 pub struct AcceptedRelease<'a> {
     release: &'a Release,
     files: &'a [Vec<u8>],
-    launches: Vec<Result<AcceptedLaunch<'a>, LaunchReason>>,
+    launches: Vec<Result<AcceptedLaunch<'a>, RefusedLaunch<'a>>>,
 }
 
 impl<'a> Model for AcceptedRelease<'a> {
@@ -51,7 +52,7 @@ impl<'a> AcceptedRelease<'a> {
     ghost use Rattle.rim_accepted.specs.Outcomes.{IsLaidOut};
 
     /// What each launch comes to, in the manifest's order.
-    pub fn outcomes(&self) -> &[Result<AcceptedLaunch<'a>, LaunchReason>]
+    pub fn outcomes(&self) -> &[Result<AcceptedLaunch<'a>, RefusedLaunch<'a>>]
         ensures value { result.now ≡ self.now.launches }
         ensures own { IsLaidOut self.now }
     {
@@ -121,7 +122,7 @@ pub fn accept_all<'a>(
 
 /// The place of the launch of a number, if there is one that could be laid out, also where its list is refused.
 fn place_at<'a>(
-    outcomes: &'a [Result<AcceptedLaunch<'_>, LaunchReason>],
+    outcomes: &'a [Result<AcceptedLaunch<'_>, RefusedLaunch<'_>>],
     number: usize,
 ) -> Option<&'a Placed>
     ensures { option_map (λ p. p.now) result
@@ -129,7 +130,16 @@ fn place_at<'a>(
 {
     match outcomes.get(number)? {
         Ok(accepted) => Some(accepted.placed()),
-        Err(LaunchReason::List { placed, .. }) => Some(placed),
-        Err(LaunchReason::Layout(_)) => None,
+        Err(refused) => placed_before(&refused.reason),
+    }
+}
+
+/// The place of a launch that is refused for a reason, if it could be laid out.
+fn placed_before(reason: &LaunchReason) -> Option<&Placed>
+    ensures { option_map (λ p. p.now) result ≡ placed_before reason.entry.now }
+{
+    match reason {
+        LaunchReason::List { placed, .. } => Some(placed),
+        LaunchReason::Layout(_) => None,
     }
 }

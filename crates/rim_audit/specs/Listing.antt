@@ -22,7 +22,3 @@ listing_of l files = commands_for l files >>= λ commands. Ok (listing_with l co
 abbrev pub text_or_line : NamedData → Result (List ℕ) AuditFault → List ℕ
 text_or_line l (Ok text) = text
 text_or_line l (Err fault) = line_with l (Err fault)
-
--- what is printed of a launch: its listing, or that line
-abbrev pub shown_of : List (List ℕ) → NamedData → List ℕ
-shown_of files l = text_or_line l (listing_of l.launch files)

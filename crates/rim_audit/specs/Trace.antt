@@ -15,11 +15,9 @@ use Rattle.rmm_model.specs.Run.{after, parts_of, run}
 use Rattle.rmm_model.specs.State.{State, empty_state}
 use Rattle.rmm_model.specs.Step.{step}
 use Rattle.rim_launch.specs.LaunchData.{LaunchData}
-use Rattle.rim_manifest.specs.Launches.{NamedData}
 use Rattle.rmi_line.specs.Ends.{digest_bytes, with_newline}
 use Rattle.rmi_line.specs.Trace.{traced_line}
 use Rattle.rim_accepted.specs.Accepted.{commands_for, rim_after}
-use Rattle.rim_audit.specs.Listing.{text_or_line}
 use Rattle.rim_accepted.specs.declared.audit_fault.AuditFault.{AuditFault}
 
 -- a measurement, two lower case hexadecimal digits for each byte of the digest, and the command that led to it
@@ -45,10 +43,6 @@ trace_with l commands = trace_lines l.config.algo [] (empty_state l.config.num_a
 -- the whole trace, or why the launch is refused
 unfoldable pub trace_of : LaunchData → List (List ℕ) → Result (List ℕ) AuditFault
 trace_of l files = commands_for l files >>= λ commands. Ok (trace_with l commands)
-
--- what is printed of a launch: its trace, or its line of a report where it is refused
-abbrev pub shown_trace_of : List (List ℕ) → NamedData → List ℕ
-shown_trace_of files l = text_or_line l (trace_of l.launch files)
 
 -- ---- what its lines show
 

@@ -5,6 +5,7 @@ ghost use Rattle.refusal.specs.Answer.{Answers};
 ghost use Rattle.ipa_layout.specs.Files.{bytes_of_files};
 ghost use Rattle.rim_accepted.specs.Accepted.{rim_after, rim_for};
 ghost use Rattle.rim_accepted.specs.Lines.{has_refused, seen};
+ghost use Rattle.rim_accepted.specs.Outcomes.{came_to};
 ghost use Rattle.rim_audit.specs.Audit.{audit_text_of};
 ghost use Rattle.rim_audit.specs.inside.Commands.{commands_in};
 ghost use Rattle.rim_audit.specs.inside.Copies.{AreKept, IsCopyIn};
@@ -17,16 +18,15 @@ use job_board::JobId;
 use job_workers::{FreeGate, Gate};
 use refusal::NoMemory;
 use rim_accepted::{
-    AuditFault, Files, LoadedLaunch, LoadedRelease, Reasons, Report, Unasked, has_refused,
-    push_lines,
+    AuditFault, Files, LoadedLaunch, LoadedRelease, RefusedLaunch, Report, has_refused, push_lines,
 };
 use rim_desc::{Lanes, Measurement};
 use rim_manifest::Release;
 use std::alloc::Global;
 
-/// The Realm Initial Measurement that a monitor holds after the commands of the launch of this number, or why the launch
-/// is refused. Each page is hashed as its command is given, and nothing is kept of it: this is the plain form, with which the audit
-/// of a release is compared.
+/// Returns the Realm Initial Measurement that a monitor holds after the commands of the launch of this number, or why the launch is refused.
+/// Each page is hashed as its command is given, and nothing is kept of it. This is the plain form, with which tests compare the audit of a
+/// release. No program calls it.
 pub fn audit(
     alloc: Global,
     release: &Release,
@@ -40,11 +40,14 @@ pub fn audit(
 {
     let mut kept = Kept::nothing(alloc, files);
     let launch = LoadedRelease::new(release, files).launch(i);
-    audit_launch(alloc, launch, &mut kept, Lanes::Four, &mut Unasked)
+    match audit_launch(alloc, launch, &mut kept, Lanes::Four)? {
+        Ok(rim) => Ok(rim),
+        Err(refused) => Err(refused.fault()),
+    }
 }
 
-/// The audit of all launches: a line `rim-audit 1`; and a line `NAME ALGO HEX` for each launch in the manifest's order, or
-/// `NAME refused KIND`. Programs call `audit_launches`, which says too whether one is refused.
+/// Returns the audit of all launches: a line `rim-audit 1`, and a line `NAME ALGO HEX` for each launch in the manifest's order, or
+/// `NAME refused KIND`. No program calls it: `audit_with_gate` also says whether a launch is refused.
 pub fn audit_report(alloc: Global, release: &Release, files: &Files) -> Result<Vec<u8>, NoMemory>
     requires { vec_len files.now ≡ length release.now.paths }
     ensures { IfOk result
@@ -54,30 +57,30 @@ pub fn audit_report(alloc: Global, release: &Release, files: &Files) -> Result<V
     Ok(report.text)
 }
 
-/// The same audit, and whether some launch in it is refused.
+/// Returns the same audit, and whether some launch in it is refused. No program calls it: this is `audit_with_gate` with a gate that is always
+/// open.
 pub fn audit_launches(alloc: Global, loaded: LoadedRelease<'_>) -> Result<Report, NoMemory>
     ensures text { IfOk result (λ r. r.text.items ≡ audit_text_of
         (bytes_of_files loaded.entry.files.now) loaded.entry.release.now.launches) }
     ensures refused { IfOk result (λ r. r.has_refused ≡ has_refused
         (bytes_of_files loaded.entry.files.now) loaded.entry.release.now.launches) }
 {
-    audit_with_gate(alloc, &FreeGate, loaded, &mut Unasked)
+    audit_with_gate(alloc, &FreeGate, loaded)
 }
 
-/// The same, where a gate is called around the audit of each launch, as by worker 0, and no page is counted; and `reasons` is given why
-/// launches are refused. No clause speaks of the two, so what the audit says does not depend on them.
-pub fn audit_with_gate<G: Gate, W: Reasons>(
+/// The same, where a gate is called around the audit of each launch, as by worker 0, and no page is counted. No clause mentions the gate, so
+/// the audit does not depend on it.
+pub fn audit_with_gate<G: Gate>(
     alloc: Global,
     gate: &G,
     loaded: LoadedRelease<'_>,
-    reasons: &mut W,
 ) -> Result<Report, NoMemory>
     ensures text { IfOk result (λ r. r.text.items ≡ audit_text_of
         (bytes_of_files loaded.entry.files.now) loaded.entry.release.now.launches) }
     ensures refused { IfOk result (λ r. r.has_refused ≡ has_refused
         (bytes_of_files loaded.entry.files.now) loaded.entry.release.now.launches) }
 {
-    let outcomes = outcomes(alloc, gate, loaded, reasons)?;
+    let outcomes = outcomes(alloc, gate, loaded)?;
     let mut text = Vec::new(alloc);
     text.extend_from_slice(b"rim-audit 1\n")?;
     push_lines(&mut text, loaded.release.all_launches(), &outcomes)?;
@@ -89,11 +92,10 @@ pub fn audit_with_gate<G: Gate, W: Reasons>(
 
 /// What came of each launch. What launches share is done once where there is room and memory for it: pages of files are hashed, and
 /// first commands are given to a monitor.
-fn outcomes<G: Gate, W: Reasons>(
+fn outcomes<G: Gate>(
     alloc: Global,
     gate: &G,
     loaded: LoadedRelease<'_>,
-    reasons: &mut W,
 ) -> Result<Vec<Result<Measurement, AuditFault>>, NoMemory>
     ensures { IfOk result (λ found. map seen found.items
         ≡ map (λ l. rim_for l.launch (bytes_of_files loaded.entry.files.now))
@@ -108,20 +110,19 @@ fn outcomes<G: Gate, W: Reasons>(
         gate.before(0, job);
         kept.close_at_last(number.saturating_add(1) >= release.launches());
         let launch = LoadedLaunch { launch, files };
-        found.push(outcome(alloc, launch, &mut kept, gate.lanes(), reasons)?)?;
+        found.push(outcome(alloc, launch, &mut kept, gate.lanes())?)?;
         gate.after(0, job);
     }
     Ok(found)
 }
 
-/// What came of a launch: its measurement, or its own refusal. Where memory is refused, what is kept of other launches is freed,
-/// and this launch alone is audited again.
-fn outcome<'a, W: Reasons>(
+/// Returns the measurement of a launch, or the fault that it is refused with. If memory is refused, frees what is kept of other launches, and
+/// audits this launch again.
+fn outcome<'a>(
     alloc: Global,
     launch: LoadedLaunch<'a>,
     kept: &mut Kept<'a>,
     lanes: Lanes,
-    reasons: &mut W,
 ) -> Result<Result<Measurement, AuditFault>, NoMemory>
     requires { AreKept (bytes_of_files launch.files.now) kept.old }
     ensures outcome { IfOk result
@@ -129,55 +130,40 @@ fn outcome<'a, W: Reasons>(
         (bytes_of_files launch.entry.files.now)) }
     ensures kept { AreKept (bytes_of_files launch.entry.files.now) kept.new }
 {
-    match audit_launch(alloc, launch, kept, lanes, reasons) {
-        Ok(rim) => Ok(Ok(rim)),
-        Err(AuditFault::NoMemory) => {
+    let outcome = match audit_launch(alloc, launch, kept, lanes) {
+        Ok(outcome) => outcome,
+        Err(_) => {
             kept.free(launch.files);
-            outcome_again(alloc, launch, kept, lanes, reasons)
+            audit_launch(alloc, launch, kept, lanes)?
         }
-        Err(fault) => Ok(Err(fault)),
-    }
-}
-
-/// The same, where nothing is kept that could be freed.
-fn outcome_again<'a, W: Reasons>(
-    alloc: Global,
-    launch: LoadedLaunch<'a>,
-    kept: &mut Kept<'a>,
-    lanes: Lanes,
-    reasons: &mut W,
-) -> Result<Result<Measurement, AuditFault>, NoMemory>
-    requires { AreKept (bytes_of_files launch.files.now) kept.old }
-    ensures outcome { IfOk result
-        (λ outcome. seen outcome ≡ rim_for launch.entry.launch.now.launch
-        (bytes_of_files launch.entry.files.now)) }
-    ensures kept { AreKept (bytes_of_files launch.entry.files.now) kept.new }
-{
-    match audit_launch(alloc, launch, kept, lanes, reasons) {
+    };
+    match outcome {
         Ok(rim) => Ok(Ok(rim)),
-        Err(fault) => Ok(Err(fault.own_fault()?)),
+        Err(refused) => Ok(Err(refused.fault())),
     }
 }
 
-/// The measurement that a monitor holds after the commands of a launch, or why the launch is refused. Its edited devicetree is
-/// made here and dropped.
+/// Returns the measurement that a monitor holds after the commands of a launch, or the launch as it is refused. Its edited devicetree is made
+/// here and dropped.
 #[tactic(auto, unfolding(rim_accepted::specs::Accepted::rim_for))]
-fn audit_launch<'a, W: Reasons>(
+fn audit_launch<'a>(
     alloc: Global,
     launch: LoadedLaunch<'a>,
     kept: &mut Kept<'a>,
     lanes: Lanes,
-    reasons: &mut W,
-) -> Result<Measurement, AuditFault>
+) -> Result<Result<Measurement, RefusedLaunch<'a>>, NoMemory>
     requires { AreKept (bytes_of_files launch.files.now) kept.old }
-    ensures rim { Answers AuditFault.NoMemory (λ m. m.bytes) result
-        (rim_for launch.entry.launch.now.launch (bytes_of_files launch.entry.files.now)) }
+    ensures rim { IfOk result (λ found. came_to (λ m. m.bytes) found
+        ≡ rim_for launch.entry.launch.now.launch (bytes_of_files launch.entry.files.now)) }
     ensures kept { AreKept (bytes_of_files launch.entry.files.now) kept.new }
 {
-    let commands = lay_out(alloc, launch, lanes, reasons)?;
+    let commands = match lay_out(alloc, launch, lanes)? {
+        Ok(commands) => commands,
+        Err(refused) => return Ok(Err(refused)),
+    };
     let (rim, copies) = followed(alloc, &commands, kept)?;
     kept.keep(commands, copies);
-    Ok(rim)
+    Ok(Ok(rim))
 }
 
 /// The measurement that a monitor holds after the commands of a launch, and copies of the monitor for later launches. It goes on

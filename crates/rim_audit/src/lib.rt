@@ -14,5 +14,5 @@ mod trace;
 
 pub use audits::{audit, audit_launches, audit_report, audit_with_gate};
 pub use laws::a_trace_shows_what_a_monitor_holds;
-pub use listings::{listing, listing_or_refusal};
-pub use trace::trace_or_refusal;
+pub use listings::{list_launch, listing};
+pub use trace::trace_launch;

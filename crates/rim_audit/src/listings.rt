@@ -1,14 +1,14 @@
 //! The listing of a launch: the commands that build its realm, as a monitor takes them.
-ghost use Rattle.std.specs.Prelude.{◌≡◌, ◌≢◌, ◌++◌, ◌<◌, length, is_err, vec_len, false, true, Err, Ok, IfOk, IfSome, OnOk};
+ghost use Rattle.std.specs.Prelude.{◌≡◌, ◌++◌, ◌<◌, length, vec_len, Ok, IfErr, IfOk, IfSome, OnOk};
 ghost use Rattle.std.specs.List.{All, flat_map, slice_get};
 ghost use Rattle.refusal.specs.Answer.{Answers};
 ghost use Rattle.ipa_layout.specs.Files.{bytes_of_files};
 ghost use Rattle.rim_accepted.specs.Accepted.{rim_after};
+ghost use Rattle.rim_accepted.specs.Outcomes.{came_to};
 ghost use Rattle.rmi_line.specs.Ends.{command_line, first_line, last_line, with_newline};
 ghost use Rattle.rmi_line.specs.Typed.{Are64Bytes, IsTyped};
 ghost use Rattle.rim_replay.specs.Replay.{ReplayAnswer};
-ghost use Rattle.rim_audit.specs.Listing.{listing_of, listing_with, shown_of};
-ghost use Rattle.rim_accepted.specs.Lines.{line_with};
+ghost use Rattle.rim_audit.specs.Listing.{listing_of, listing_with};
 ghost use Rattle.rim_audit.specs.inside.Commands.{commands_in};
 
 use crate::beside::Beside;
@@ -17,10 +17,7 @@ use crate::known_pages::KnownPages;
 use crate::laying_out::lay_out;
 use itoa::Buffer;
 use refusal::NoMemory;
-use rim_accepted::{
-    AuditFault, Files, LoadedLaunch, LoadedRelease, Reasons, Report, Unasked, push_line, push_rim,
-    refused_report,
-};
+use rim_accepted::{AuditFault, Files, LoadedLaunch, LoadedRelease, RefusedLaunch, push_rim};
 use rim_desc::{Algo, Command, Lanes, Measurement, RecRule};
 use rim_manifest::Release;
 use rmi_line::print_line;
@@ -29,7 +26,7 @@ use std::alloc::Global;
 /// The listing of the launch of this number, or why the launch is refused: a line `rim-list 1 aux N`, where a REC has N
 /// auxiliary granules, or `rim-list 2 aux N rec RULE` where the launch has a rule for RECs; a line for each command that builds the
 /// realm; and a line `rim ALGO HEX` with the Realm Initial Measurement that a monitor holds then. A monitor is given each command
-/// before the command is printed. Its replay says yes.
+/// before the command is printed. Its replay says yes. No program calls it: this is `list_launch` of a launch by its number.
 pub fn listing(
     alloc: Global,
     release: &Release,
@@ -42,53 +39,34 @@ pub fn listing(
         (λ text. text.items) result (listing_of l.launch (bytes_of_files files.now.items))) }
     ensures confirmed { IfOk result (λ text. ReplayAnswer text.items (Ok tt)) }
 {
-    list_launch(
+    match list_launch(
         alloc,
-        LoadedRelease::new(release, files).launch(i),
         Lanes::Four,
-        &mut Unasked,
-    )
-}
-
-/// The listing of a launch; or, where it is refused, its line of a report: `NAME refused KIND`, and `reasons` is given why. Pages are hashed
-/// in as many lanes.
-pub fn listing_or_refusal<W: Reasons>(
-    alloc: Global,
-    lanes: Lanes,
-    loaded: LoadedLaunch<'_>,
-    reasons: &mut W,
-) -> Result<Report, NoMemory>
-    ensures text { IfOk result (λ r. r.text.items ≡ shown_of (bytes_of_files loaded.entry.files.now)
-        loaded.entry.launch.now) }
-    ensures refused { IfOk result (λ r. r.has_refused ≡ is_err
-        (listing_of loaded.entry.launch.now.launch (bytes_of_files loaded.entry.files.now))) }
-    ensures confirmed { IfOk result
-        (λ r. r.has_refused ≡ false → ReplayAnswer r.text.items (Ok tt)) }
-{
-    match list_launch(alloc, loaded, lanes, reasons) {
-        Ok(text) => Ok(Report {
-            text,
-            has_refused: false,
-        }),
-        Err(fault) => refused_report(alloc, loaded.launch, fault),
+        LoadedRelease::new(release, files).launch(i),
+    )? {
+        Ok(text) => Ok(text),
+        Err(refused) => Err(refused.fault()),
     }
 }
 
-/// The listing of a launch, or why it is refused.
+/// Returns the listing of a launch, or the launch as it is refused. Pages are hashed in as many lanes.
 #[tactic(auto, unfolding(crate::specs::Listing::listing_of))]
-fn list_launch<W: Reasons>(
+pub fn list_launch<'a>(
     alloc: Global,
-    loaded: LoadedLaunch<'_>,
     lanes: Lanes,
-    reasons: &mut W,
-) -> Result<Vec<u8>, AuditFault>
-    ensures text { Answers AuditFault.NoMemory (λ text. text.items) result
-        (listing_of loaded.entry.launch.now.launch (bytes_of_files loaded.entry.files.now)) }
-    ensures confirmed { IfOk result (λ text. ReplayAnswer text.items (Ok tt)) }
+    loaded: LoadedLaunch<'a>,
+) -> Result<Result<Vec<u8>, RefusedLaunch<'a>>, NoMemory>
+    ensures text { IfOk result (λ found. came_to (λ text. text.items) found
+        ≡ listing_of loaded.entry.launch.now.launch (bytes_of_files loaded.entry.files.now)) }
+    ensures confirmed { IfOk result
+        (λ found. IfOk found (λ text. ReplayAnswer text.items (Ok tt))) }
+    ensures own_refusal { IfOk result
+        (λ found. IfErr found (λ r. r.named.now ≡ loaded.entry.launch.now)) }
 {
-    let commands = lay_out(alloc, loaded, lanes, reasons)?;
-    let text = print(alloc, &commands)?;
-    Ok(text)
+    match lay_out(alloc, loaded, lanes)? {
+        Ok(commands) => Ok(Ok(print(alloc, &commands)?)),
+        Err(refused) => Ok(Err(refused)),
+    }
 }
 
 /// The lines of a launch that is accepted.

@@ -1,8 +1,8 @@
 //! The trace of a launch: its measurement after each command that creates or extends it.
-ghost use Rattle.std.specs.Prelude.{◌≡◌, ◌++◌, is_err, option_map, IfOk, OnOk};
-ghost use Rattle.refusal.specs.Answer.{Answers};
+ghost use Rattle.std.specs.Prelude.{◌≡◌, ◌++◌, option_map, IfErr, IfOk, OnOk};
 ghost use Rattle.ipa_layout.specs.Files.{bytes_of_files};
-ghost use Rattle.rim_audit.specs.Trace.{line_if_held, rim_held, rim_line, shown_trace_of, trace_of, trace_with};
+ghost use Rattle.rim_accepted.specs.Outcomes.{came_to};
+ghost use Rattle.rim_audit.specs.Trace.{line_if_held, rim_held, rim_line, trace_of, trace_with};
 ghost use Rattle.rim_audit.specs.inside.Commands.{commands_in};
 
 use crate::beside::Beside;
@@ -10,50 +10,30 @@ use crate::commands::LaunchCommands;
 use crate::known_pages::KnownPages;
 use crate::laying_out::lay_out;
 use refusal::NoMemory;
-use rim_accepted::{AuditFault, LoadedLaunch, Reasons, Report, push_digest, refused_report};
+use rim_accepted::{LoadedLaunch, RefusedLaunch, push_digest};
 use rim_desc::{Algo, Command, Lanes, Measurement, extends};
 use rmi_line::print_traced;
 use rmm_monitor::{Monitor, is_runnable};
 use std::alloc::Global;
 
-/// The trace of a launch: a line for each command that creates or extends the Realm Initial Measurement, with
-/// the measurement that a monitor holds after it (64 or 128 hexadecimal digits), a space, and the command's words but for the
-/// granules that the host chooses. Or, where the launch is refused, its line of a report: `NAME refused KIND`, and
-/// `reasons` is given why. Pages are hashed in as many lanes.
-pub fn trace_or_refusal<W: Reasons>(
-    alloc: Global,
-    lanes: Lanes,
-    loaded: LoadedLaunch<'_>,
-    reasons: &mut W,
-) -> Result<Report, NoMemory>
-    ensures text { IfOk result (λ r. r.text.items ≡ shown_trace_of
-        (bytes_of_files loaded.entry.files.now) loaded.entry.launch.now) }
-    ensures refused { IfOk result (λ r. r.has_refused ≡ is_err
-        (trace_of loaded.entry.launch.now.launch (bytes_of_files loaded.entry.files.now))) }
-{
-    match trace_launch(alloc, loaded, lanes, reasons) {
-        Ok(text) => Ok(Report {
-            text,
-            has_refused: false,
-        }),
-        Err(fault) => refused_report(alloc, loaded.launch, fault),
-    }
-}
-
-/// The trace of a launch, or why it is refused.
+/// Returns the trace of a launch, or the launch as it is refused. The trace has a line for each command that creates or extends the Realm
+/// Initial Measurement: the measurement that a monitor holds after it (64 or 128 hexadecimal digits), a space, and the command's words except
+/// for the granules that the host chooses. Pages are hashed in as many lanes.
 #[tactic(auto, unfolding(crate::specs::Trace::trace_of))]
-fn trace_launch<W: Reasons>(
+pub fn trace_launch<'a>(
     alloc: Global,
-    loaded: LoadedLaunch<'_>,
     lanes: Lanes,
-    reasons: &mut W,
-) -> Result<Vec<u8>, AuditFault>
-    ensures { Answers AuditFault.NoMemory (λ text. text.items) result
-        (trace_of loaded.entry.launch.now.launch (bytes_of_files loaded.entry.files.now)) }
+    loaded: LoadedLaunch<'a>,
+) -> Result<Result<Vec<u8>, RefusedLaunch<'a>>, NoMemory>
+    ensures text { IfOk result (λ found. came_to (λ text. text.items) found
+        ≡ trace_of loaded.entry.launch.now.launch (bytes_of_files loaded.entry.files.now)) }
+    ensures own_refusal { IfOk result
+        (λ found. IfErr found (λ r. r.named.now ≡ loaded.entry.launch.now)) }
 {
-    let commands = lay_out(alloc, loaded, lanes, reasons)?;
-    let text = trace(alloc, &commands)?;
-    Ok(text)
+    match lay_out(alloc, loaded, lanes)? {
+        Ok(commands) => Ok(Ok(trace(alloc, &commands)?)),
+        Err(refused) => Ok(Err(refused)),
+    }
 }
 
 /// The lines of a launch that is accepted. A monitor takes each command before its line is added.

@@ -4,8 +4,8 @@ use crate::digest::Digest;
 use crate::job::{Job, Shape};
 use crate::manifest::manifest;
 use rim_release::{
-    Files, Gate, JobId, Lanes, LoadedRelease, Unasked, audit_with_gate, listing_or_refusal,
-    measure_release, outcome_alone, read_manifest, replay,
+    Files, Gate, JobId, Lanes, LoadedRelease, audit_with_gate, list_launch, measure_release,
+    outcome_alone, read_manifest, replay,
 };
 use std::alloc::{AllocError, Global};
 use std::sync::Wait;
@@ -70,9 +70,7 @@ pub fn run<R: Threads + Wait + Sync>(
     let loaded = LoadedRelease::new(&release, &files);
     match job {
         Job::Audit => {
-            let report = audit_with_gate(alloc, &gate, loaded, &mut Unasked).map_err(
-                |_| Fault::NoMemory,
-            )?;
+            let report = audit_with_gate(alloc, &gate, loaded).map_err(|_| Fault::NoMemory)?;
             found.add(report.text.as_slice());
         }
         Job::List => listed(alloc, lanes, loaded, &mut found)?,
@@ -112,10 +110,11 @@ fn listed(
     found: &mut Digest,
 ) -> Result<(), Fault> {
     for i in 0..loaded.release.launches() {
-        let shown = listing_or_refusal(alloc, lanes, loaded.launch(i), &mut Unasked);
-        let shown = shown.map_err(|_| Fault::NoMemory)?;
-        found.add(shown.text.as_slice());
-        if replay(alloc, shown.text.as_slice()).is_err() {
+        let Ok(Ok(listing)) = list_launch(alloc, lanes, loaded.launch(i)) else {
+            return Err(Fault::Refused);
+        };
+        found.add(listing.as_slice());
+        if replay(alloc, listing.as_slice()).is_err() {
             return Err(Fault::Refused);
         }
     }

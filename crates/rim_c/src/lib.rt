@@ -1,20 +1,25 @@
-//! The calls of a library, for C. Each is one of `rim_calls`, whose contract it states again. Nothing checks that a caller meets what the types
-//! ask for: that each pointer is to as many bytes or files as its length says, that no two that are written to overlap, and that nothing else
-//! writes to what is lent during a call.
+//! The library for C: the program's answers about files in memory, on the calling thread. No call takes a lock, waits, or keeps memory.
+//!
+//! Nothing checks that a caller meets what the types ask for: that each pointer is to as many bytes or files as its length says, that no two
+//! that are written to overlap, and that nothing else writes to what is lent during a call.
 #![tactic(auto)]
 
+mod answers;
+mod codes;
+mod held;
+mod room;
+
 ghost use Rattle.std.specs.Prelude.{◌≡◌};
-ghost use Rattle.rim_calls.specs.Ends.{Ends, EndsOfLaunch, EndsWithPaths, EndsWithRim, EndsWithVersion};
+ghost use Rattle.rim_c.specs.Ends.{Ends, EndsOfLaunch, EndsWithPaths, EndsWithRim, EndsWithVersion};
 ghost use Rattle.rim_words.specs.declared.words.Ask.{Ask};
 ghost use Rattle.rim_words.specs.declared.words.FileAsk.{FileAsk};
 ghost use Rattle.rim_words.specs.declared.words.LaunchAsk.{LaunchAsk};
 ghost use Rattle.rim_words.specs.declared.words.ManifestAsk.{ManifestAsk};
 ghost use Rattle.rim_c.specs.Formats.{format_of};
 
-use rim_calls::{
-    Ask, File, FileAsk, Format, Lanes, LaunchAsk, ManifestAsk, answer, answer_of_launch,
-    launch_rim_of, paths,
-};
+use crate::answers::{answer, answer_of_launch, launch_rim_of, paths, version};
+use crate::held::File;
+use rim_cli::{Ask, FileAsk, Format, Lanes, LaunchAsk, ManifestAsk};
 use std::alloc::Global;
 
 /// Puts the report of a manifest's launches into the room for it.
@@ -297,7 +302,7 @@ pub extern "C" fn rim_proved_version(out: &mut [u8], length: &mut usize) -> u32
     ensures { EndsWithVersion
         (record { old = out.old; new = out.new; before = length.old; after = length.new }) result }
 {
-    rim_calls::version(out, length)
+    version(out, length)
 }
 
 /// How many messages are hashed side by side. No answer depends on it.

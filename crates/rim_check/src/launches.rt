@@ -10,8 +10,7 @@ use crate::detail::{reason_detail, reason_expected};
 use crate::found::{Found, LaunchCheck};
 use crate::mending::mending_of;
 use refusal::NoMemory;
-use rim_accepted::{AcceptedLaunch, LaunchReason, LoadedLaunch, LoadedRelease, accept};
-use rim_manifest::NamedLaunch;
+use rim_accepted::{AcceptedLaunch, LoadedLaunch, LoadedRelease, RefusedLaunch, accept};
 use rim_unusual::find_unusual;
 use shown_text::{Line, Remark, Word, launch_place, push_remark};
 use std::alloc::Global;
@@ -44,9 +43,9 @@ fn look_at(alloc: Global, found: &mut Found, loaded: LoadedLaunch<'_>) -> Result
 {
     match accept(alloc, loaded)? {
         Ok(accepted) => add_accepted(alloc, found, &accepted),
-        Err(reason) => {
+        Err(refused) => {
             found.has_refused = true;
-            push_refusal(&mut found.refusals, loaded.launch, loaded.files, &reason)
+            push_refusal(&mut found.refusals, &refused)
         }
     }
 }
@@ -73,32 +72,24 @@ fn add_accepted(
 }
 
 /// Adds the remark on a launch that is refused.
-fn push_refusal(
-    remarks: &mut Vec<Remark>,
-    launch: &NamedLaunch,
-    files: &[Vec<u8>],
-    reason: &LaunchReason,
-) -> Result<(), NoMemory>
-    ensures { OnOk result (AddsLine (refusal_said launch.now reason.now)
+fn push_refusal(remarks: &mut Vec<Remark>, refused: &RefusedLaunch<'_>) -> Result<(), NoMemory>
+    ensures { OnOk result (AddsLine (refusal_said refused.now.named.now refused.now.reason)
         remarks.old.items remarks.new.items) }
 {
-    let remark = refusal_remark(*remarks.allocator(), launch, files, reason)?;
+    let remark = refusal_remark(*remarks.allocator(), refused)?;
     push_remark(remarks, remark)
 }
 
-/// The remark on a launch that is refused for this reason, with what helps to mend it.
-pub fn refusal_remark(
-    alloc: Global,
-    launch: &NamedLaunch,
-    files: &[Vec<u8>],
-    reason: &LaunchReason,
-) -> Result<Remark, NoMemory>
-    ensures { IfOk result (Says (refusal_said launch.now reason.now)) }
+/// Returns the remark on a launch that is refused, with what helps to mend it.
+pub fn refusal_remark(alloc: Global, refused: &RefusedLaunch<'_>) -> Result<Remark, NoMemory>
+    ensures { IfOk result (Says (refusal_said refused.now.named.now refused.now.reason)) }
 {
+    let launch = refused.named;
+    let reason = &refused.reason;
     let config = launch.launch().config();
     let given = reason_detail(alloc, launch, &config, reason)?;
     let expected = reason_expected(alloc, reason)?;
-    let mending = mending_of(launch.launch(), files, reason);
+    let mending = mending_of(launch.launch(), refused.files, reason);
     let help = format!(in alloc; "{mending}")?;
     Ok(Remark {
         place: launch_place(alloc, launch.name(), 0)?,

@@ -35,6 +35,7 @@ use Rattle.rim_words.specs.declared.words.Request.{Request}
 use Rattle.rim_words.specs.declared.words.Ask.{Ask}
 use Rattle.rim_words.specs.declared.words.Ask.TheVariants as ask
 use Rattle.rim_words.specs.declared.words.ManifestAsk.TheVariants.{Measure, Audit, Check}
+use Rattle.rim_words.specs.declared.words.LaunchAsk.{LaunchAsk}
 use Rattle.rim_words.specs.declared.words.LaunchAsk.TheVariants.{List as Lists, Trace, Map, Dtb}
 use Rattle.rim_words.specs.declared.words.FileAsk.TheVariants.{Replay, Image, Fdt}
 use Rattle.rim_files.specs.declared.fault.Fault.{Fault}
@@ -155,23 +156,13 @@ pub record OfLaunch (held : List ℕ → Known) (r : ReleaseData) (name : List �
   pub named : launch_in r name ≡ Some launch
   pub holds : Holds launch files
 
--- a text of the launch of a name, or its line where it is refused, and then 1 is the status
-abbrev pub IsTextOf : (NamedData → List (List ℕ) → Result (List ℕ) AuditFault) → (List ℕ → Known) → ReleaseData → List ℕ → List ℕ → ℕ → Type 0
-IsTextOf text_of held r name text status = OfLaunch held r name (λ l files. IsShown l (text_of l files) text status)
-
-abbrev pub IsListing : (List ℕ → Known) → ReleaseData → List ℕ → List ℕ → ℕ → Type 0
-IsListing held r name text status = IsTextOf (λ l. listing_of l.launch) held r name text status
-
-abbrev pub IsTrace : (List ℕ → Known) → ReleaseData → List ℕ → List ℕ → ℕ → Type 0
-IsTrace held r name text status = IsTextOf (λ l. trace_of l.launch) held r name text status
-
--- the map of the launch of a name
-abbrev pub IsMapped : (List ℕ → Known) → Format → ReleaseData → List ℕ → List ℕ → ℕ → Type 0
-IsMapped held format r name text status = OfLaunch held r name (λ l files. IsMapOf format r.paths l files text status)
-
--- the devicetree of the launch of a name, as it is placed
-abbrev pub IsDevicetree : (List ℕ → Known) → ReleaseData → List ℕ → List ℕ → ℕ → Type 0
-IsDevicetree held r name bytes status = OfLaunch held r name (λ l files. (devicetree_of l.launch files ≡ Ok (Some bytes)) × (status ≡ 0))
+-- the text that is asked of a launch of a release with these paths and files, or the bytes of its devicetree, and the status: 1 where the launch
+-- is refused, and the text is its line of a report or its map
+abbrev pub IsLaunchAnswer : LaunchAsk → List (List ℕ) → NamedData → List (List ℕ) → List ℕ → ℕ → Type 0
+IsLaunchAnswer Lists paths l files text status = IsShown l (listing_of l.launch files) text status
+IsLaunchAnswer Trace paths l files text status = IsShown l (trace_of l.launch files) text status
+IsLaunchAnswer (Map format) paths l files text status = IsMapOf format paths l files text status
+IsLaunchAnswer Dtb paths l files bytes status = (devicetree_of l.launch files ≡ Ok (Some bytes)) × (status ≡ 0)
 
 -- the Realm Initial Measurement of the launch of a name, and the algorithm that it is by
 abbrev pub IsRim : (List ℕ → Known) → ReleaseData → List ℕ → LaunchRim → Type 0
@@ -182,10 +173,8 @@ abbrev pub IsAnswer : (List ℕ → Known) → Ask → List ℕ → List ℕ →
 IsAnswer held (ask.Manifest (Measure workers format)) path bytes text status = IsOkAnd (manifest_of bytes) (λ r. IsReport format path bytes held r text status)
 IsAnswer held (ask.Manifest Audit) path bytes text status = IsOkAnd (manifest_of bytes) (λ r. IsAudit held r text status)
 IsAnswer held (ask.Manifest (Check quiet format)) path bytes text status = IsCheckIn format held quiet path bytes text status
-IsAnswer held (ask.Launch name Lists) path bytes text status = IsOkAnd (manifest_of bytes) (λ r. IsListing held r name.now text status)
-IsAnswer held (ask.Launch name Trace) path bytes text status = IsOkAnd (manifest_of bytes) (λ r. IsTrace held r name.now text status)
-IsAnswer held (ask.Launch name (Map format)) path bytes text status = IsOkAnd (manifest_of bytes) (λ r. IsMapped held format r name.now text status)
-IsAnswer held (ask.Launch name Dtb) path bytes text status = IsOkAnd (manifest_of bytes) (λ r. IsDevicetree held r name.now text status)
+IsAnswer held (ask.Launch name asked) path bytes text status =
+    IsOkAnd (manifest_of bytes) (λ r. OfLaunch held r name.now (λ l files. IsLaunchAnswer asked r.paths l files text status))
 IsAnswer held (ask.File Replay) path bytes text status = IsReplayed bytes text status
 IsAnswer held (ask.File Image) path bytes text status = (image_answer_of bytes ≡ Ok text) × (status ≡ 0)
 IsAnswer held (ask.File Fdt) path bytes text status = ShowsDevicetree bytes text × (status ≡ 0)
@@ -212,14 +201,14 @@ abbrev pub RefusesListing : (List ℕ → Known) → List ℕ → ReleaseData �
 RefusesListing held name r fault = ((fault ≡ NoSuchLaunch) × (launch_in r name ≡ None))
     ⊎ ((is_some (launch_in r name) ≡ true) × IsFirstFault held r.paths fault)
 
--- why the launch of a name gives no devicetree: it has none, or is refused
-abbrev pub IsDtbFault : (List ℕ → Known) → List ℕ → ReleaseData → Fault → Type 0
-IsDtbFault held name r NoDevicetree = OfLaunch held r name (λ l files. devicetree_of l.launch files ≡ Ok None)
-IsDtbFault held name r (Refused fault) = (fault ≡ audit.NoMemory) ⊎ OfLaunch held r name (λ l files. devicetree_of l.launch files ≡ Err fault)
-IsDtbFault held name r _ = ⊥
+-- why a launch gives no devicetree: it has none, or is refused. Nothing else that is asked of a launch has a fault of the launch
+abbrev pub IsLaunchFault : LaunchAsk → NamedData → List (List ℕ) → Fault → Type 0
+IsLaunchFault Dtb l files NoDevicetree = devicetree_of l.launch files ≡ Ok None
+IsLaunchFault Dtb l files (Refused fault) = (fault ≡ audit.NoMemory) ⊎ (devicetree_of l.launch files ≡ Err fault)
+IsLaunchFault asked l files fault = ⊥
 
-abbrev pub RefusesDtb : (List ℕ → Known) → List ℕ → ReleaseData → Fault → Type 0
-RefusesDtb held name r fault = RefusesListing held name r fault ⊎ IsDtbFault held name r fault
+abbrev pub RefusesLaunch : (List ℕ → Known) → List ℕ → LaunchAsk → ReleaseData → Fault → Type 0
+RefusesLaunch held name asked r fault = RefusesListing held name r fault ⊎ OfLaunch held r name (λ l files. IsLaunchFault asked l files fault)
 
 -- why the launch of a name has no measurement: the release has none, or the launch is refused
 abbrev pub IsRimFault : (List ℕ → Known) → List ℕ → ReleaseData → Fault → Type 0
@@ -255,8 +244,7 @@ abbrev pub Refuses : (List ℕ → Known) → Ask → Known → Fault → Type 0
 Refuses held (ask.Manifest (Measure workers format)) known fault = RefusesManifest (RefusesReport held) known fault
 Refuses held (ask.Manifest Audit) known fault = RefusesManifest (RefusesAudit held) known fault
 Refuses held (ask.Manifest (Check quiet format)) known fault = IsFileFault known fault
-Refuses held (ask.Launch name Dtb) known fault = RefusesManifest (RefusesDtb held name.now) known fault
-Refuses held (ask.Launch name _) known fault = RefusesManifest (RefusesListing held name.now) known fault
+Refuses held (ask.Launch name asked) known fault = RefusesManifest (RefusesLaunch held name.now asked) known fault
 Refuses held (ask.File Replay) known fault = IsFileFault known fault
 Refuses held (ask.File Image) known fault = RefusesImage known fault
 Refuses held (ask.File Fdt) known fault = RefusesFdt known fault

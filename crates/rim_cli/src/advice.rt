@@ -2,12 +2,14 @@
 //! is about. That it is true is tested alone.
 ghost use Rattle.std.specs.Prelude.{◌≡◌};
 
-use crate::aside::Aside;
+use crate::answer::Answer;
 use crate::checking::{check_path, failure_text};
+use crate::found::read_launch;
 use crate::program::Terminals;
 use file_front::{DevicetreeFront, image_front};
 use refusal::NoMemory;
-use rim_check::{MarkedLine, Nearest, Remark};
+use rim_accepted::accept;
+use rim_check::{MarkedLine, Nearest, Remark, refusal_remark};
 use rim_files::{Fault, Opener, Unread, read_or_why};
 use rim_manifest::read_manifest;
 use rim_show::ShowFault;
@@ -28,14 +30,13 @@ pub fn is_explained(request: &Request, terminals: Terminals) -> bool {
     request.explain || terminals.err
 }
 
-/// Writes why a request was refused with this fault, where that is explained: what `aside` has of a launch that is refused, else what its
-/// files say. Nothing is written where they say something else now, or memory runs out.
+/// Writes why a request was refused with this fault, where that is explained. Its files are read again for it; nothing is written if they have
+/// other contents by now, or if memory runs out.
 pub fn advise<O: Opener, E: Write>(
     alloc: Global,
     request: &Request,
     terminals: Terminals,
     fault: Fault,
-    aside: &Aside,
     opener: &mut O,
     err: &mut E,
 )
@@ -44,30 +45,17 @@ pub fn advise<O: Opener, E: Write>(
     if !is_explained(request, terminals) || fault.status() != FAULT {
         return;
     }
-    if matches!(fault, Fault::Refused(_)) {
-        return write_remarks(alloc, &aside.refusals, err);
-    }
     if let Ok(line) = advice(alloc, opener, request, fault) {
         write_line(line.as_slice(), err);
     }
 }
 
-/// Writes why launches are refused, where the words ask for it and the text of this status has a word alone: a line for each.
-pub fn explain_refusals<E: Write>(
-    alloc: Global,
-    request: &Request,
-    status: u8,
-    aside: &Aside,
-    err: &mut E,
-) {
-    if request.explain && status == REFUSED {
-        write_remarks(alloc, &aside.refusals, err);
+/// Writes why launches are refused, where the words ask for it and the text of the answer has only a word: a line for each.
+pub fn explain_refusals<E: Write>(alloc: Global, request: &Request, answer: &Answer, err: &mut E) {
+    if !request.explain || answer.status != REFUSED {
+        return;
     }
-}
-
-/// Writes a line for each remark.
-fn write_remarks<E: Write>(alloc: Global, remarks: &[Remark], err: &mut E) {
-    for remark in remarks {
+    for remark in answer.refusals.iter().flatten() {
         if let Ok(line) = line_of(alloc, remark) {
             write_line(line.as_slice(), err);
         }
@@ -78,7 +66,7 @@ fn write_remarks<E: Write>(alloc: Global, remarks: &[Remark], err: &mut E) {
 pub fn show_mark<E: Write>(
     request: &Request,
     terminals: Terminals,
-    mark: Option<MarkedLine>,
+    mark: Option<&MarkedLine>,
     err: &mut E,
 ) {
     if !terminals.err || request.output.is_some() {
@@ -140,6 +128,7 @@ fn advice<O: Opener>(
         Ask::Launch { launch, .. } => match fault {
             Fault::NoSuchLaunch => launch_advice(alloc, opener, path, launch),
             Fault::NoDevicetree => no_devicetree(alloc, launch),
+            Fault::Refused(_) => refusal_advice(alloc, opener, path, launch),
             _ => fault_advice(alloc, opener, path, fault),
         },
         Ask::File(_) => file_advice(alloc, opener, path, fault),
@@ -158,7 +147,7 @@ fn fault_advice<O: Opener>(
     if let Err(why) = read_or_why(alloc, opener, manifest) {
         return unread_advice(alloc, manifest, why);
     }
-    let Ok(found) = check_path(alloc, opener, manifest, true, &mut None) else {
+    let Ok(found) = check_path(alloc, opener, manifest, true) else {
         return Ok(Vec::new(alloc));
     };
     let word = fault.kind();
@@ -194,6 +183,24 @@ fn launch_advice<O: Opener>(
     let quoted = Quoted(launch);
     write!(line, " has no launch {quoted}{nearest}").map_err(|_| NoMemory)?;
     Ok(Vec::from_slice(alloc, line.as_slice())?)
+}
+
+/// Why a launch is refused.
+fn refusal_advice<O: Opener>(
+    alloc: Global,
+    opener: &mut O,
+    manifest: &str,
+    launch: &str,
+) -> Result<Vec<u8>, NoMemory>
+    ensures stays { O.held opener.new ≡ O.held opener.old }
+{
+    let Ok(found) = read_launch(alloc, opener, manifest, launch) else {
+        return Ok(Vec::new(alloc));
+    };
+    match accept(alloc, found.loaded())? {
+        Ok(_) => Ok(Vec::new(alloc)),
+        Err(refused) => line_of(alloc, &refusal_remark(alloc, &refused)?),
+    }
 }
 
 /// That a launch has no devicetree.

@@ -2,58 +2,84 @@
 ghost use Rattle.std.specs.Prelude.{◌≡◌, ◌⊎◌, ◌<◌, ◌≤◌, Err, IfErr, IfOk, IsOkAnd, Ok, Some, if◌then◌else◌, length, map, position, true, vec_len};
 ghost use Rattle.sha2.specs.Sha256.{sha256};
 ghost use Rattle.ipa_layout.specs.Files.{bytes_of_files};
+ghost use Rattle.rim_manifest.specs.Launches.{NamedData};
 ghost use Rattle.rim_accepted.specs.Lines.{has_refused, outcomes_for, seen};
+ghost use Rattle.rim_accepted.specs.Outcomes.{came_to};
 ghost use Rattle.rim_pages.specs.Pages.{page_keys};
 ghost use Rattle.rim_report.specs.Report.{is_crew, measured_of};
 ghost use Rattle.rim_words.specs.Command.{HasCrew, IsCrew};
 ghost use Rattle.rim_manifest.specs.Manifest.{manifest_of};
 ghost use Rattle.rim_show.specs.ShownDevicetree.{ShowsDevicetree};
 ghost use Rattle.rim_show.specs.ShownImage.{image_answer_of};
-ghost use Rattle.rim_cli.specs.Done.{IsAnswer, IsAudit, IsDevicetree, IsListing, IsManifestFault, IsReport, IsReportAsJson, IsReportOf, IsTrace, Refuses, RefusesAudit, RefusesDtb, RefusesFdt, RefusesImage, RefusesListing, RefusesManifest, RefusesReport};
+ghost use Rattle.rim_cli.specs.Done.{IsAnswer, IsAudit, IsLaunchAnswer, IsLaunchFault, IsManifestFault, IsReport, IsReportAsJson, IsReportOf, IsShown, Refuses, RefusesAudit, RefusesFdt, RefusesImage, RefusesManifest, RefusesReport};
 ghost use Rattle.rim_files.specs.Files.{AreRead, IfFile};
 
-use crate::aside::Aside;
 use crate::checking::check;
 use crate::found::{read_launch, read_release, release_in};
 use crate::freed::keep_freed_memory;
-use crate::mapping::map;
+use crate::mapping::map_of;
 use crate::replaying::replay;
-use file_digests::{Digested, digested_alone, measure_with_digests};
 use job_workers::Gate;
 use refusal::NoMemory;
-use rim_accepted::{AcceptedRelease, Files, LoadedRelease, Report, placed_devicetree};
-use rim_audit::{audit_with_gate, listing_or_refusal, trace_or_refusal};
-use rim_check::refusals;
+use rim_accepted::{
+    Files, LoadedLaunch, LoadedRelease, RefusedLaunch, accept_all, placed_devicetree, refused_line,
+};
+use rim_audit::{audit_with_gate, list_launch, trace_launch};
+use rim_check::{MarkedLine, refusal_remark, refusals};
 use rim_desc::Lanes;
 use rim_files::{Fault, Opener, read_file, read_files, read_files_at_once};
-use rim_json::json_report;
+use rim_json::{Reported, json_report};
 use rim_manifest::Release;
 use rim_pages::StartFault;
-use rim_report::{Outcome, measure_release, outcome_alone};
+use rim_report::{
+    Digested, Outcome, digested_alone, measure_release, measure_with_digests, outcome_alone,
+};
 use rim_show::{show_fdt, show_image};
 use rim_words::{Ask, FileAsk, Format, LaunchAsk, ManifestAsk, Request, VERSION};
+use shown_text::Remark;
 use std::alloc::Global;
 use std::convert::AsSlice;
 use std::sync::Wait;
 use std::thread::{Threads, available_parallelism};
 
-/// The text that a request asks for, or the bytes of a devicetree, and the exit status that it ends with: 0, or 1 where
-/// the text says that some launch is refused or that a listing is not what it says, or 3 where it says what a check found
-/// at fault in a manifest or its files.
+/// The answer to a request.
 #[derive(Drop)]
 pub struct Answer {
+    /// The text that the request asks for, or the bytes of a devicetree.
     pub text: Vec<u8>,
+    /// The exit status: 0, or 1 where the text says that some launch is refused or that a listing is not what it says, or 3 where it says
+    /// what a check found at fault in a manifest or its files.
     pub status: u8,
+    /// Why launches are refused, where the request asks for it. No clause mentions these remarks.
+    pub refusals: Vec<Option<Remark>>,
+    /// The line of a manifest that has the first fault which a check has found. No clause mentions it.
+    pub mark: Option<MarkedLine>,
 }
 
-/// The answer to a request, or the first fault. The gate is called by workers, and by an audit. `aside` gets what is said beside it.
+impl Answer {
+    ghost use Rattle.std.specs.Prelude.{◌≡◌};
+
+    /// Returns an answer without remarks.
+    pub(crate) fn new(alloc: Global, text: Vec<u8>, status: u8) -> Answer
+        ensures text { result.text ≡ text }
+        ensures status { result.status ≡ status }
+    {
+        Answer {
+            text,
+            status,
+            refusals: Vec::new(alloc),
+            mark: None,
+        }
+    }
+}
+
+/// Answers a request, or returns the first fault. The gate is called by workers, and by an audit.
 pub fn answer_to<R: Threads + Wait + Sync, G: Gate + Sync, O: Opener>(
     rt: &R,
     alloc: Global,
     gate: &mut G,
     request: Request,
     opener: &mut O,
-    aside: &mut Aside,
 ) -> Result<Answer, Fault>
     requires { HasCrew request.ask }
     ensures answered { IfOk result (λ a. IfFile (O.held opener.old request.entry.path.now)
@@ -67,9 +93,10 @@ pub fn answer_to<R: Threads + Wait + Sync, G: Gate + Sync, O: Opener>(
     let path = request.path;
     match request.ask {
         Ask::Manifest(ManifestAsk::Measure { workers, format }) => {
-            measure(rt, alloc, gate, opener, path, workers, format, aside)
+            let explain = request.explain;
+            measure(rt, alloc, gate, opener, path, workers, format, explain)
         }
-        _ => answer_alone(alloc, gate, request, opener, aside),
+        _ => answer_alone(alloc, gate, request, opener),
     }
 }
 
@@ -80,7 +107,6 @@ pub fn answer_alone<G: Gate, O: Opener>(
     gate: &G,
     request: Request,
     opener: &mut O,
-    aside: &mut Aside,
 ) -> Result<Answer, Fault>
     ensures answered { IfOk result (λ a. IfFile (O.held opener.old request.entry.path.now)
         (λ bytes. IsAnswer (O.held opener.old) request.entry.ask request.entry.path.now bytes
@@ -91,10 +117,11 @@ pub fn answer_alone<G: Gate, O: Opener>(
     ensures stays { O.held opener.new ≡ O.held opener.old }
 {
     let path = request.path;
+    let explain = request.explain;
     match request.ask {
-        Ask::Manifest(ask) => manifest_answer(alloc, gate, opener, path, ask, aside),
+        Ask::Manifest(ask) => manifest_answer(alloc, gate, opener, path, ask, explain),
         Ask::Launch { launch, ask } => {
-            launch_answer(alloc, gate.lanes(), opener, path, launch, ask, aside)
+            launch_answer(alloc, gate.lanes(), opener, path, launch, ask, explain)
         }
         Ask::File(ask) => file_answer(alloc, opener, path, ask),
     }
@@ -107,7 +134,7 @@ fn manifest_answer<G: Gate, O: Opener>(
     opener: &mut O,
     path: &str,
     ask: ManifestAsk,
-    aside: &mut Aside,
+    explain: bool,
 ) -> Result<Answer, Fault>
     ensures answered { IfOk result (λ a. IfFile (O.held opener.old path.now)
         (λ bytes. IsAnswer (O.held opener.old) (Ask.Manifest ask) path.now bytes
@@ -119,12 +146,10 @@ fn manifest_answer<G: Gate, O: Opener>(
 {
     match ask {
         ManifestAsk::Measure { format, .. } => {
-            measure_alone(alloc, gate.lanes(), opener, path, format, aside)
+            measure_alone(alloc, gate.lanes(), opener, path, format, explain)
         }
-        ManifestAsk::Audit => audit(alloc, gate, opener, path, aside),
-        ManifestAsk::Check { quiet, format } => {
-            check(alloc, opener, path, quiet, format, &mut aside.mark)
-        }
+        ManifestAsk::Audit => audit(alloc, gate, opener, path, explain),
+        ManifestAsk::Check { quiet, format } => check(alloc, opener, path, quiet, format),
     }
 }
 
@@ -136,7 +161,7 @@ fn launch_answer<O: Opener>(
     path: &str,
     launch: &str,
     ask: LaunchAsk,
-    aside: &mut Aside,
+    explain: bool,
 ) -> Result<Answer, Fault>
     ensures answered { IfOk result (λ a. IfFile (O.held opener.old path.now)
         (λ bytes. IsAnswer (O.held opener.old) (Ask.Launch launch.entry ask) path.now bytes
@@ -146,11 +171,63 @@ fn launch_answer<O: Opener>(
     ensures status { IfOk result (λ a. a.status ≤ 1) }
     ensures stays { O.held opener.new ≡ O.held opener.old }
 {
+    let found = read_launch(alloc, opener, path, launch)?;
+    answer_of_launch(alloc, lanes, &found.release, found.loaded(), ask, explain)
+}
+
+/// Answers what is asked of a launch that is read. A launch that is refused has a line of a report, or a map; its devicetree is not given.
+fn answer_of_launch(
+    alloc: Global,
+    lanes: Lanes,
+    release: &Release,
+    loaded: LoadedLaunch<'_>,
+    ask: LaunchAsk,
+    explain: bool,
+) -> Result<Answer, Fault>
+    ensures answered { IfOk result (λ a. IsLaunchAnswer ask release.now.paths
+        loaded.entry.launch.now (bytes_of_files loaded.entry.files.now) a.text.items a.status) }
+    ensures refused { IfErr result (λ e. (e ≡ Fault.NoMemory) ⊎ IsLaunchFault ask
+        loaded.entry.launch.now (bytes_of_files loaded.entry.files.now) e) }
+    ensures status { IfOk result (λ a. a.status ≤ 1) }
+{
     match ask {
-        LaunchAsk::List => list(alloc, lanes, opener, path, launch, aside),
-        LaunchAsk::Trace => trace(alloc, lanes, opener, path, launch, aside),
-        LaunchAsk::Map { format } => map(alloc, opener, path, launch, format),
-        LaunchAsk::Dtb => dtb(alloc, opener, path, launch, aside),
+        LaunchAsk::List => {
+            let listed = list_launch(alloc, lanes, loaded)?;
+            Ok(text_answer(alloc, listed, explain)?)
+        }
+        LaunchAsk::Trace => {
+            let traced = trace_launch(alloc, lanes, loaded)?;
+            Ok(text_answer(alloc, traced, explain)?)
+        }
+        LaunchAsk::Map { format } => Ok(map_of(alloc, release, loaded, format)?),
+        LaunchAsk::Dtb => match placed_devicetree(alloc, loaded) {
+            Ok(Some(bytes)) => Ok(Answer::new(alloc, bytes, 0)),
+            Ok(None) => Err(Fault::NoDevicetree),
+            Err(fault) => Err(Fault::Refused(fault)),
+        },
+    }
+}
+
+/// Answers with the text of a launch, or with its line of a report where it is refused.
+fn text_answer(
+    alloc: Global,
+    text: Result<Vec<u8>, RefusedLaunch<'_>>,
+    explain: bool,
+) -> Result<Answer, NoMemory>
+    ensures shown { IfOk result (λ a. (l : NamedData) → IfErr text.entry (λ r. r.named.now ≡ l)
+        → IsShown l (came_to (λ t. t.items) text.entry) a.text.items a.status) }
+    ensures status { IfOk result (λ a. a.status ≤ 1) }
+{
+    match text {
+        Ok(text) => Ok(Answer::new(alloc, text, 0)),
+        Err(refused) => {
+            let mut answer = Answer::new(alloc, refused_line(alloc, &refused)?, 1);
+            if explain {
+                let remark = refusal_remark(alloc, &refused)?;
+                answer.refusals.push(Some(remark))?;
+            }
+            Ok(answer)
+        }
     }
 }
 
@@ -195,7 +272,7 @@ fn measure<R: Threads + Wait + Sync, G: Gate + Sync, O: Opener>(
     path: &str,
     workers: u8,
     format: Format,
-    aside: &mut Aside,
+    explain: bool,
 ) -> Result<Answer, Fault>
     requires { IsCrew workers }
     ensures answered { IfOk result (λ a. IfFile (O.held opener.old path.now) (λ bytes. IsOkAnd
@@ -212,9 +289,9 @@ fn measure<R: Threads + Wait + Sync, G: Gate + Sync, O: Opener>(
     let files = read_files_at_once(rt, alloc, opener, &release, workers)?;
     let text = text.as_slice();
     let report = report(
-        rt, alloc, gate, path, text, &release, &files, workers, format, aside,
+        rt, alloc, gate, path, text, &release, &files, workers, format, explain,
     );
-    Ok(answer_of(report.map_err(Fault::Start)?))
+    report.map_err(Fault::Start)
 }
 
 /// The same report, made on the calling thread alone.
@@ -224,7 +301,7 @@ fn measure_alone<O: Opener>(
     opener: &mut O,
     path: &str,
     format: Format,
-    aside: &mut Aside,
+    explain: bool,
 ) -> Result<Answer, Fault>
     ensures answered { IfOk result (λ a. IfFile (O.held opener.old path.now) (λ bytes. IsOkAnd
         (manifest_of bytes)
@@ -238,11 +315,11 @@ fn measure_alone<O: Opener>(
     let release = release_in(alloc, text.as_slice())?;
     let files = read_files(alloc, opener, &release)?;
     let text = text.as_slice();
-    let report = report_alone(alloc, lanes, path, text, &release, &files, format, aside);
-    Ok(answer_of(report.map_err(Fault::Start)?))
+    let report = report_alone(alloc, lanes, path, text, &release, &files, format, explain);
+    report.map_err(Fault::Start)
 }
 
-/// Returns the report of the release that a manifest describes, made by 1 to 64 workers, in a format.
+/// Answers with the report of the release that a manifest describes, made by 1 to 64 workers, in a format.
 fn report<R: Threads + Wait + Sync, G: Gate + Sync>(
     rt: &R,
     alloc: Global,
@@ -253,30 +330,30 @@ fn report<R: Threads + Wait + Sync, G: Gate + Sync>(
     files: &Files,
     workers: usize,
     format: Format,
-    aside: &mut Aside,
-) -> Result<Report, StartFault>
+    explain: bool,
+) -> Result<Answer, StartFault>
     requires each { vec_len files.now ≡ length release.now.paths }
     requires crew { is_crew workers ≡ true }
-    ensures text { IfOk result (λ r. IsReportOf format path.now bytes.now
-        (bytes_of_files files.now.items) release.now r.text.items) }
+    ensures text { IfOk result (λ a. IsReportOf format path.now bytes.now
+        (bytes_of_files files.now.items) release.now a.text.items) }
     ensures fault { IfErr result (λ e. (e ≡ StartFault.NoMemory)
         ⊎ (measured_of (bytes_of_files files.now.items) release.now.launches ≡ Err e)) }
-    ensures refused { IfOk result (λ r. r.has_refused
-        ≡ has_refused (bytes_of_files files.now.items) release.now.launches) }
+    ensures status { IfOk result (λ a. a.status
+        ≡ (if has_refused (bytes_of_files files.now.items) release.now.launches then 1 else 0)) }
 {
     match format {
         Format::Text => {
             let outcome = measure_release(rt, alloc, gate, release, files, workers)?;
-            Ok(report_as_text(outcome, aside))
+            Ok(report_as_text(alloc, outcome, explain)?)
         }
         Format::Json => {
             let digested = measure_with_digests(rt, alloc, gate, release, files, workers)?;
-            Ok(report_as_json(alloc, path, bytes, digested, aside)?)
+            Ok(report_as_json(alloc, path, bytes, digested)?)
         }
     }
 }
 
-/// Returns the same report, made on the calling thread alone.
+/// Answers with the same report, made on the calling thread alone.
 fn report_alone(
     alloc: Global,
     lanes: Lanes,
@@ -285,149 +362,86 @@ fn report_alone(
     release: &Release,
     files: &Files,
     format: Format,
-    aside: &mut Aside,
-) -> Result<Report, StartFault>
+    explain: bool,
+) -> Result<Answer, StartFault>
     requires each { vec_len files.now ≡ length release.now.paths }
-    ensures text { IfOk result (λ r. IsReportOf format path.now bytes.now
-        (bytes_of_files files.now.items) release.now r.text.items) }
+    ensures text { IfOk result (λ a. IsReportOf format path.now bytes.now
+        (bytes_of_files files.now.items) release.now a.text.items) }
     ensures fault { IfErr result (λ e. (e ≡ StartFault.NoMemory)
         ⊎ (measured_of (bytes_of_files files.now.items) release.now.launches ≡ Err e)) }
-    ensures refused { IfOk result (λ r. r.has_refused
-        ≡ has_refused (bytes_of_files files.now.items) release.now.launches) }
+    ensures status { IfOk result (λ a. a.status
+        ≡ (if has_refused (bytes_of_files files.now.items) release.now.launches then 1 else 0)) }
 {
     match format {
         Format::Text => {
             let outcome = outcome_alone(alloc, lanes, release, files)?;
-            Ok(report_as_text(outcome, aside))
+            Ok(report_as_text(alloc, outcome, explain)?)
         }
         Format::Json => {
             let digested = digested_alone(alloc, lanes, release, files)?;
-            Ok(report_as_json(alloc, path, bytes, digested, aside)?)
+            Ok(report_as_json(alloc, path, bytes, digested)?)
         }
     }
 }
 
-/// Returns the report as lines.
-fn report_as_text(outcome: Outcome<'_>, aside: &mut Aside) -> Report
-    ensures text { result.text.items ≡ outcome.entry.report.items }
-    ensures refused { result.has_refused ≡ outcome.entry.has_refused }
+/// Answers with the report as lines.
+fn report_as_text(alloc: Global, outcome: Outcome<'_>, explain: bool) -> Result<Answer, NoMemory>
+    ensures text { IfOk result (λ a. a.text.items ≡ outcome.entry.report.items) }
+    ensures status { IfOk result (λ a. a.status ≡ (if outcome.entry.has_refused then 1 else 0)) }
 {
-    aside.add_refusals(&outcome.accepted);
-    Report {
-        text: outcome.report,
-        has_refused: outcome.has_refused,
+    let mut answer = Answer::new(alloc, outcome.report, refused_status(outcome.has_refused));
+    if explain {
+        answer.refusals = refusals(alloc, &outcome.accepted)?;
     }
+    Ok(answer)
 }
 
-/// Returns the report as JSON.
+/// Answers with the report as JSON.
 fn report_as_json(
     alloc: Global,
     path: &str,
     bytes: &[u8],
     digested: Digested<'_>,
-    aside: &mut Aside,
-) -> Result<Report, NoMemory>
+) -> Result<Answer, NoMemory>
     requires digests { digested.digests.items ≡ map sha256 digested.outcome.accepted.files }
     requires launches { map seen digested.outcome.launches.items ≡ outcomes_for
         digested.outcome.accepted.files digested.outcome.accepted.release.launches }
     requires pages { digested.outcome.pages ≡ length (page_keys
         digested.outcome.accepted.files digested.outcome.accepted.release.launches) }
-    ensures text { IfOk result (λ r. IsReportAsJson path.now bytes.now
+    ensures text { IfOk result (λ a. IsReportAsJson path.now bytes.now
         digested.entry.outcome.accepted.files digested.entry.outcome.accepted.release
-        r.text.items) }
-    ensures refused { IfOk result (λ r. r.has_refused ≡ digested.entry.outcome.has_refused) }
+        a.text.items) }
+    ensures status { IfOk result
+        (λ a. a.status ≡ (if digested.entry.outcome.has_refused then 1 else 0)) }
 {
     let Digested { outcome, digests } = digested;
-    aside.add_refusals(&outcome.accepted);
     let program = format!(in alloc; "rim {VERSION}")?;
     let remarks = refusals(alloc, &outcome.accepted)?;
-    let text = json_report(
-        alloc,
-        &program,
+    let reported = Reported {
+        program: &program,
         path,
         bytes,
-        &outcome.accepted,
-        &digests,
-        &outcome.launches,
-        &remarks,
-        outcome.pages,
-    )?;
-    Ok(Report {
+        accepted: &outcome.accepted,
+        digests: &digests,
+        outcomes: &outcome.launches,
+        remarks: &remarks,
+        pages: outcome.pages,
+    };
+    let text = json_report(alloc, &reported)?;
+    Ok(Answer {
         text,
-        has_refused: outcome.has_refused,
+        status: refused_status(outcome.has_refused),
+        refusals: remarks,
+        mark: None,
     })
 }
 
-/// The listing of a manifest's launch, or its line where it is refused.
-fn list<O: Opener>(
-    alloc: Global,
-    lanes: Lanes,
-    opener: &mut O,
-    path: &str,
-    launch: &str,
-    aside: &mut Aside,
-) -> Result<Answer, Fault>
-    ensures answered { IfOk result (λ a. IfFile (O.held opener.old path.now) (λ bytes. IsOkAnd
-        (manifest_of bytes)
-        (λ r. IsListing (O.held opener.old) r launch.now a.text.items a.status))) }
-    ensures refused { IfErr result (RefusesManifest (RefusesListing (O.held opener.old) launch.now)
-        (O.held opener.old path.now)) }
-    ensures status { IfOk result (λ a. a.status ≤ 1) }
-    ensures stays { O.held opener.new ≡ O.held opener.old }
+/// Returns the exit status of a text about launches, by whether it says that some launch is refused.
+fn refused_status(has_refused: bool) -> u8
+    ensures value { result ≡ (if has_refused then 1 else 0) }
+    ensures known { result ≤ 1 }
 {
-    let found = read_launch(alloc, opener, path, launch)?;
-    match listing_or_refusal(alloc, lanes, found.loaded(), aside) {
-        Ok(report) => Ok(answer_of(report)),
-        Err(_) => Err(Fault::NoMemory),
-    }
-}
-
-/// The trace of a manifest's launch, or its line where it is refused.
-fn trace<O: Opener>(
-    alloc: Global,
-    lanes: Lanes,
-    opener: &mut O,
-    path: &str,
-    launch: &str,
-    aside: &mut Aside,
-) -> Result<Answer, Fault>
-    ensures answered { IfOk result (λ a. IfFile (O.held opener.old path.now) (λ bytes. IsOkAnd
-        (manifest_of bytes)
-        (λ r. IsTrace (O.held opener.old) r launch.now a.text.items a.status))) }
-    ensures refused { IfErr result (RefusesManifest (RefusesListing (O.held opener.old) launch.now)
-        (O.held opener.old path.now)) }
-    ensures status { IfOk result (λ a. a.status ≤ 1) }
-    ensures stays { O.held opener.new ≡ O.held opener.old }
-{
-    let found = read_launch(alloc, opener, path, launch)?;
-    match trace_or_refusal(alloc, lanes, found.loaded(), aside) {
-        Ok(report) => Ok(answer_of(report)),
-        Err(_) => Err(Fault::NoMemory),
-    }
-}
-
-/// The devicetree of a manifest's launch, as it is placed.
-fn dtb<O: Opener>(
-    alloc: Global,
-    opener: &mut O,
-    path: &str,
-    launch: &str,
-    aside: &mut Aside,
-) -> Result<Answer, Fault>
-    ensures answered { IfOk result (λ a. IfFile (O.held opener.old path.now) (λ bytes. IsOkAnd
-        (manifest_of bytes)
-        (λ r. IsDevicetree (O.held opener.old) r launch.now a.text.items a.status))) }
-    ensures refused { IfErr result
-        (RefusesManifest (RefusesDtb (O.held opener.old) launch.now) (O.held opener.old path.now)) }
-    ensures status { IfOk result (λ a. a.status ≤ 1) }
-    ensures stays { O.held opener.new ≡ O.held opener.old }
-{
-    let found = read_launch(alloc, opener, path, launch)?;
-    match placed_devicetree(alloc, found.loaded(), aside) {
-        Ok(Some(text)) => Ok(Answer { text, status: 0 }),
-        Ok(None) => Err(Fault::NoDevicetree),
-        Err(fault) => Err(Fault::Refused(fault)),
-    }
+    if has_refused { 1 } else { 0 }
 }
 
 /// The audit of a manifest's launches.
@@ -436,7 +450,7 @@ fn audit<G: Gate, O: Opener>(
     gate: &G,
     opener: &mut O,
     path: &str,
-    aside: &mut Aside,
+    explain: bool,
 ) -> Result<Answer, Fault>
     ensures answered { IfOk result (λ a. IfFile (O.held opener.old path.now) (λ bytes. IsOkAnd
         (manifest_of bytes) (λ r. IsAudit (O.held opener.old) r a.text.items a.status))) }
@@ -449,19 +463,13 @@ fn audit<G: Gate, O: Opener>(
     let files = read_files(alloc, opener, &release)?;
     keep_freed_memory(alloc);
     let loaded = LoadedRelease::new(&release, &files);
-    let report = audit_with_gate(alloc, gate, loaded, aside).map_err(|_| Fault::NoMemory)?;
-    Ok(answer_of(report))
-}
-
-/// A text about launches as an answer.
-pub fn answer_of(report: Report) -> Answer
-    ensures text { result.text.items ≡ report.text.items }
-    ensures status { result.status ≡ (if report.has_refused then 1 else 0) }
-{
-    Answer {
-        text: report.text,
-        status: if report.has_refused { 1 } else { 0 },
+    let report = audit_with_gate(alloc, gate, loaded)?;
+    let mut answer = Answer::new(alloc, report.text, refused_status(report.has_refused));
+    if explain && report.has_refused {
+        // An audit keeps no launch, since each may have a large devicetree. So they are laid out again.
+        answer.refusals = refusals(alloc, &accept_all(alloc, loaded)?)?;
     }
+    Ok(answer)
 }
 
 /// The header of the Image at a path.
@@ -474,7 +482,7 @@ fn image<O: Opener>(alloc: Global, opener: &mut O, path: &str) -> Result<Answer,
 {
     let bytes = read_file(alloc, opener, path)?;
     let text = show_image(alloc, bytes.as_slice()).map_err(Fault::Show)?;
-    Ok(Answer { text, status: 0 })
+    Ok(Answer::new(alloc, text, 0))
 }
 
 /// The devicetree in the file at a path.
@@ -487,5 +495,5 @@ fn fdt<O: Opener>(alloc: Global, opener: &mut O, path: &str) -> Result<Answer, F
 {
     let bytes = read_file(alloc, opener, path)?;
     let text = show_fdt(alloc, bytes.as_slice()).map_err(Fault::Show)?;
-    Ok(Answer { text, status: 0 })
+    Ok(Answer::new(alloc, text, 0))
 }

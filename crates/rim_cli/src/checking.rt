@@ -19,23 +19,23 @@ use std::alloc::{AllocError, Global};
 use std::convert::AsSlice;
 use std::io::ErrorKind;
 
-/// What a check has found: the faults, the warnings, and the exit status that it ends with.
+/// What a check has found: the faults, the warnings, and the exit status that it ends with; and the line of the manifest that has its first
+/// fault.
 #[derive(Drop)]
 pub struct Checked {
     pub faults: Vec<Remark>,
     pub warnings: Vec<Remark>,
     pub status: u8,
+    pub mark: Option<MarkedLine>,
 }
 
-/// What is wrong with the manifest at a path; or else with the files and the launches of its release. `mark` becomes the line of the
-/// manifest that has its first fault.
+/// Answers with what is wrong with the manifest at a path, or else with the files and the launches of its release.
 pub fn check<O: Opener>(
     alloc: Global,
     opener: &mut O,
     path: &str,
     quiet: bool,
     format: Format,
-    mark: &mut Option<MarkedLine>,
 ) -> Result<Answer, Fault>
     ensures answered { IfOk result (λ a. IfFile (O.held opener.old path.now)
         (λ bytes. IsCheckIn format (O.held opener.old) quiet path.now bytes a.text.items
@@ -44,7 +44,7 @@ pub fn check<O: Opener>(
     ensures status { IfOk result (λ a. (a.status ≤ 1) ⊎ (a.status ≡ 3)) }
     ensures stays { O.held opener.new ≡ O.held opener.old }
 {
-    let found = check_path(alloc, opener, path, quiet, mark)?;
+    let found = check_path(alloc, opener, path, quiet)?;
     answer_in(alloc, found, format)
 }
 
@@ -59,15 +59,18 @@ fn answer_in(alloc: Global, found: Checked, format: Format) -> Result<Answer, Fa
         faults,
         warnings,
         status,
+        mark,
     } = found;
     let text = match format {
-        Format::Text => lines(alloc, &faults, &warnings),
-        Format::Json => check_json(alloc, &faults, &warnings, status),
+        Format::Text => lines(alloc, &faults, &warnings)?,
+        Format::Json => check_json(alloc, &faults, &warnings, status)?,
     };
-    match text {
-        Ok(text) => Ok(Answer { text, status }),
-        Err(_) => Err(Fault::NoMemory),
-    }
+    Ok(Answer {
+        text,
+        status,
+        refusals: Vec::new(alloc),
+        mark,
+    })
 }
 
 /// A line for each fault, and then for each warning.
@@ -79,13 +82,12 @@ fn lines(alloc: Global, faults: &[Remark], warnings: &[Remark]) -> Result<Vec<u8
     Ok(text)
 }
 
-/// What is found of the manifest at a path. `mark` becomes the line of the manifest that has its first fault.
+/// What is found of the manifest at a path.
 pub(crate) fn check_path<O: Opener>(
     alloc: Global,
     opener: &mut O,
     path: &str,
     quiet: bool,
-    mark: &mut Option<MarkedLine>,
 ) -> Result<Checked, Fault>
     ensures found { IfOk result (λ c. IfFile (O.held opener.old path.now)
         (λ bytes. Finds (O.held opener.old) quiet path.now bytes (findings_of c) c.status)) }
@@ -96,10 +98,11 @@ pub(crate) fn check_path<O: Opener>(
     let bytes = read_file(alloc, opener, path)?;
     match check_manifest(alloc, path, bytes.as_slice()) {
         Ok(ManifestCheck::Faulty(faults, first)) => {
-            if let Ok(marked) = mark_first(alloc, bytes.as_slice(), first) {
-                *mark = marked;
+            let mut found = at_fault(alloc, faults);
+            if let Ok(mark) = mark_first(alloc, bytes.as_slice(), first) {
+                found.mark = mark;
             }
-            Ok(at_fault(alloc, faults))
+            Ok(found)
         }
         Ok(ManifestCheck::Readable(release)) => check_release(alloc, opener, &release, quiet),
         Err(_) => Err(Fault::NoMemory),
@@ -116,6 +119,7 @@ fn at_fault(alloc: Global, faults: Vec<Remark>) -> Checked
         faults,
         warnings: Vec::new(alloc),
         status: 3,
+        mark: None,
     }
 }
 
@@ -158,6 +162,7 @@ fn release_check(alloc: Global, check: LaunchCheck, quiet: bool) -> Checked
         faults,
         warnings: if quiet { Vec::new(alloc) } else { warnings },
         status: check_status(fault),
+        mark: None,
     }
 }
 

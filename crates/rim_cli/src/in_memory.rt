@@ -37,7 +37,7 @@ impl<'a> Opener for InMemory<'a> {
 
 /// Runs `rim measure manifest.toml` on a manifest in memory. Where its launches name no file, statuses 0 and 1 say that
 /// their report was added to `out`, and which of both it is. A manifest with a fault ends with 3 or 4, and `out` is as
-/// it was.
+/// it was. No program calls it.
 pub fn measure_in_memory<R: Threads + Wait + Sync>(
     rt: &R,
     alloc: Global,

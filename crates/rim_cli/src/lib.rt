@@ -3,7 +3,6 @@
 
 mod advice;
 mod answer;
-mod aside;
 mod checking;
 mod found;
 mod freed;
@@ -15,7 +14,6 @@ mod replaying;
 mod rims;
 
 pub use answer::{Answer, answer_alone};
-pub use aside::Aside;
 pub use in_memory::measure_in_memory;
 pub use job_board::JobId;
 pub use job_workers::{FreeGate, Gate};

@@ -1,50 +1,22 @@
-//! The map of a manifest's launch.
-ghost use Rattle.std.specs.Prelude.{◌≡◌, ◌<◌, ◌≤◌, ◌++◌, ℕ, List, [], IfErr, IfOk, IfSome, IsOkAnd, Ok, Some, codes, length, map, position, slice_get, true, vec_len};
-ghost use Rattle.rim_cli.specs.Done.{IsMapped, RefusesListing, RefusesManifest};
-ghost use Rattle.rim_files.specs.Files.{IfFile};
+//! The map of a launch.
+ghost use Rattle.std.specs.Prelude.{◌≤◌, IfOk};
 ghost use Rattle.rim_cli.specs.Mapped.{IsMapOf, ShowsPlaced, ShowsRefusal};
 ghost use Rattle.rim_check.specs.Explained.{refusal_said};
 ghost use Rattle.shown_text.specs.Lines.{Says};
 ghost use Rattle.shown_text.specs.declared.remark.Remark.{Remark};
 ghost use Rattle.ipa_layout.specs.Files.{bytes_of_files};
-ghost use Rattle.rim_manifest.specs.Manifest.{manifest_of};
 
 use crate::answer::Answer;
-use crate::found::read_launch;
 use refusal::NoMemory;
-use rim_accepted::{LaunchReason, ListedLaunch, LoadedLaunch, accept_with_list};
+use rim_accepted::{ListedLaunch, LoadedLaunch, RefusedLaunch, accept_with_list};
 use rim_check::refusal_remark;
-use rim_files::{Fault, Opener};
 use rim_manifest::Release;
-use rim_map::{RefusedLaunch, map_json, map_text, refused_json, refused_text};
+use rim_map::{map_json, map_text, refused_json, refused_text};
 use rim_words::Format;
 use std::alloc::Global;
 
-/// The map of a launch of the manifest at a path, as far as it goes: status 1 where the launch is refused.
-pub fn map<O: Opener>(
-    alloc: Global,
-    opener: &mut O,
-    path: &str,
-    launch: &str,
-    format: Format,
-) -> Result<Answer, Fault>
-    ensures answered { IfOk result (λ a. IfFile (O.held opener.old path.now)
-        (λ bytes. IsOkAnd (manifest_of bytes)
-        (λ r. IsMapped (O.held opener.old) format r launch.now a.text.items a.status))) }
-    ensures refused { IfErr result (RefusesManifest (RefusesListing (O.held opener.old) launch.now)
-        (O.held opener.old path.now)) }
-    ensures status { IfOk result (λ a. a.status ≤ 1) }
-    ensures stays { O.held opener.new ≡ O.held opener.old }
-{
-    let found = read_launch(alloc, opener, path, launch)?;
-    match map_of(alloc, &found.release, found.loaded(), format) {
-        Ok(answer) => Ok(answer),
-        Err(_) => Err(Fault::NoMemory),
-    }
-}
-
-/// The map of a launch of a release in a format, and its status.
-fn map_of(
+/// Answers with the map of a launch of a release in a format, as far as it goes: status 1 where the launch is refused.
+pub fn map_of(
     alloc: Global,
     release: &Release,
     loaded: LoadedLaunch<'_>,
@@ -55,14 +27,14 @@ fn map_of(
     ensures status { IfOk result (λ a. a.status ≤ 1) }
 {
     match accept_with_list(alloc, loaded)? {
-        Ok(listed) => Ok(Answer {
-            text: accepted_map(alloc, release, &listed, format)?,
-            status: 0,
-        }),
-        Err(reason) => Ok(Answer {
-            text: refused_map(alloc, release, loaded, &reason, format)?,
-            status: 1,
-        }),
+        Ok(listed) => {
+            let text = accepted_map(alloc, release, &listed, format)?;
+            Ok(Answer::new(alloc, text, 0))
+        }
+        Err(refused) => {
+            let text = refused_map(alloc, release, &refused, format)?;
+            Ok(Answer::new(alloc, text, 1))
+        }
     }
 }
 
@@ -87,25 +59,17 @@ fn accepted_map(
 fn refused_map(
     alloc: Global,
     release: &Release,
-    loaded: LoadedLaunch<'_>,
-    reason: &LaunchReason,
+    refused: &RefusedLaunch<'_>,
     format: Format,
 ) -> Result<Vec<u8>, NoMemory>
     ensures { IfOk result (λ text. (remark : Remark)
-        × Says (refusal_said loaded.entry.launch.now reason.now) remark
-        × ShowsRefusal format release.now.paths loaded.entry.launch.now
-        (bytes_of_files loaded.entry.files.now) reason.now remark text.items) }
+        × Says (refusal_said refused.now.named.now refused.now.reason) remark
+        × ShowsRefusal format release.now.paths refused.now.named.now
+        (bytes_of_files refused.now.files.now) refused.now.reason remark text.items) }
 {
-    let LoadedLaunch { launch, files } = loaded;
-    let remark = refusal_remark(alloc, launch, files, reason)?;
-    let refused = RefusedLaunch {
-        launch,
-        files,
-        reason,
-        remark: &remark,
-    };
+    let remark = refusal_remark(alloc, refused)?;
     match format {
-        Format::Text => refused_text(alloc, release, &refused),
-        Format::Json => refused_json(alloc, release, &refused),
+        Format::Text => refused_text(alloc, release, refused, &remark),
+        Format::Json => refused_json(alloc, release, refused, &remark),
     }
 }

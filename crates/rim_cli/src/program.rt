@@ -10,7 +10,6 @@ ghost use Rattle.rim_files.specs.Status.{status_of, unreadable_status};
 
 use crate::advice::{advise, explain_refusals, is_explained, show_mark, show_unsaved};
 use crate::answer::{Answer, answer_to};
-use crate::aside::Aside;
 use clap::error::ErrorKind as UsageKind;
 use job_workers::Gate;
 use rim_files::{Fault, Opener};
@@ -111,17 +110,16 @@ fn run_request<R: Threads + Wait + Sync, G: Gate + Sync, O: Opener, W: Write, E:
         (O.held opener.new) (out.new ≡ out.old) (W.contents out.old) (W.contents out.new) result }
     ensures kept { result ≡ 4 → (out.new ≡ out.old) × (O.held opener.new ≡ O.held opener.old) }
 {
-    let mut aside = Aside::new(alloc, is_explained(&request, terminals));
-    match answer_to(rt, alloc, gate, request, opener, &mut aside) {
+    match answer_to(rt, alloc, gate, request, opener) {
         Ok(answer) => {
-            explain_refusals(alloc, &request, answer.status, &aside, err);
-            let status = deliver(alloc, &request, answer, terminals, opener, out, err);
-            show_mark(&request, terminals, aside.mark.take(), err);
+            explain_refusals(alloc, &request, &answer, err);
+            let status = deliver(alloc, &request, &answer, terminals, opener, out, err);
+            show_mark(&request, terminals, answer.mark.as_ref(), err);
             status
         }
         Err(fault) => {
             let status = report_fault(fault, err);
-            advise(alloc, &request, terminals, fault, &aside, opener, err);
+            advise(alloc, &request, terminals, fault, opener, err);
             status
         }
     }
@@ -131,19 +129,19 @@ fn run_request<R: Threads + Wait + Sync, G: Gate + Sync, O: Opener, W: Write, E:
 fn deliver<O: Opener, W: Write, E: Write>(
     alloc: Global,
     request: &Request,
-    answer: Answer,
+    answer: &Answer,
     terminals: Terminals,
     opener: &mut O,
     out: &mut W,
     err: &mut E,
 ) -> u8
-    requires { (answer.status ≤ 1) ⊎ (answer.status ≡ 3) }
-    ensures known { (result ≡ answer.status) ⊎ (result ≡ 3) }
-    ensures own { result ≤ 1 → result ≡ answer.status }
+    requires { (answer.now.status ≤ 1) ⊎ (answer.now.status ≡ 3) }
+    ensures known { (result ≡ answer.now.status) ⊎ (result ≡ 3) }
+    ensures own { result ≤ 1 → result ≡ answer.now.status }
     ensures done { result ≤ 1 → IsWritten (output_of request.now) (O.held opener.new)
-        (W.contents out.old) (W.contents out.new) answer.text.items }
-    ensures ends { ((result ≡ answer.status) × IsWritten (output_of request.now)
-        (O.held opener.new) (W.contents out.old) (W.contents out.new) answer.text.items)
+        (W.contents out.old) (W.contents out.new) answer.now.text.items }
+    ensures ends { ((result ≡ answer.now.status) × IsWritten (output_of request.now)
+        (O.held opener.new) (W.contents out.old) (W.contents out.new) answer.now.text.items)
         ⊎ ((result ≡ 3) × (O.held opener.new ≡ O.held opener.old)) }
     ensures others { KeepsOthers (output_of request.now) (O.held opener.old) (O.held opener.new) }
 {

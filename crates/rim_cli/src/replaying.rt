@@ -21,10 +21,7 @@ pub fn replay<O: Opener>(alloc: Global, opener: &mut O, path: &str) -> Result<An
     let answer = rim_replay::replay(alloc, bytes.as_slice());
     let status = if answer.is_err() { 1 } else { 0 };
     let text = replay_text(alloc, answer).map_err(|_| Fault::NoMemory)?;
-    Ok(Answer {
-        text: text.into_bytes(),
-        status,
-    })
+    Ok(Answer::new(alloc, text.into_bytes(), status))
 }
 
 /// The line of what a listing came to. Where that is want of memory, it has none.

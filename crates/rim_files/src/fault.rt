@@ -1,7 +1,9 @@
 //! Why a run of the program fails.
 ghost use Rattle.std.specs.Prelude.{◌≡◌, ◌≤◌};
 ghost use Rattle.rim_files.specs.Status.{word_of, status_of};
+ghost use Rattle.rim_files.specs.declared.fault.Fault.TheVariants as fault;
 
+use refusal::NoMemory;
 use rim_accepted::AuditFault;
 use rim_manifest::ManifestFault;
 use rim_pages::StartFault;
@@ -28,6 +30,14 @@ pub enum Fault {
     /// The output cannot be written.
     OutputFailed,
     NoMemory,
+}
+
+impl From<NoMemory> for Fault {
+    ghost from_gives = { λ _ e. e ≡ fault.NoMemory };
+
+    fn from(_error: NoMemory) -> Fault {
+        Fault::NoMemory
+    }
 }
 
 impl Fault {

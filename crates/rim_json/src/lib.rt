@@ -5,5 +5,7 @@ mod files;
 mod launch;
 mod parameters;
 mod report;
+mod reported;
 
 pub use report::json_report;
+pub use reported::Reported;

@@ -12,10 +12,11 @@ ghost use Rattle.rim_json.specs.inside.Seen.{news_of, reported};
 
 use crate::files::{file_value, file_values};
 use crate::launch::{items, put_edited, put_launch, put_outcome, put_refusal};
-use launch_json::{FileDigest, Members, json_text, put_count, put_text, put_values};
+use crate::reported::Reported;
+use launch_json::{Members, json_text, put_count, put_text, put_values};
 use map_rows::Shown;
 use refusal::NoMemory;
-use rim_accepted::{AcceptedRelease, AuditFault};
+use rim_accepted::AuditFault;
 use rim_desc::Measurement;
 use rim_manifest::NamedLaunch;
 use serde_json::{Map, Value};
@@ -23,24 +24,7 @@ use sha2::{Digest, Sha256};
 use shown_text::Remark;
 use std::alloc::{AllocError, Global};
 
-/// What a report is made of: what `json_report` is given, but for the digests of the files.
-#[derive(Clone, Copy)]
-struct Reported<'a, 'b> {
-    program: &'a str,
-    path: &'a str,
-    bytes: &'a [u8],
-    accepted: &'a AcceptedRelease<'b>,
-    outcomes: &'a [Result<Measurement, AuditFault>],
-    remarks: &'a [Option<Remark>],
-    pages: u64,
-}
-
-/// The report that a program, by its name and version, makes of a release: of the manifest with this path, as it was given, and these bytes;
-/// of the release's files, its launches and their places; of the digest of each file; of what came of each launch, and of the remark that says
-/// why it is refused, if it is; and of how many different measured pages the release has. Digests, outcomes and remarks are in the manifest's
-/// order.
-///
-/// It is one JSON object without spaces, and a line feed. Its members are `files` and
+/// Returns the report as JSON: one object without spaces, and a line feed. Its members are `files` and
 /// `launches`, each in the manifest's order; `manifests`, of which the manifest's own file is the only one, so that reports can be joined;
 /// `pages`, the number of different measured pages;
 /// `program`, the program's name and version as they are given; and `version`, which is 4. A file has `bytes`, how many it has; `path`;
@@ -49,71 +33,34 @@ struct Reported<'a, 'b> {
 /// edits, if any; and the measurement, as `rim` in lower case hexadecimal
 /// digits and as `rim_base64` in base64 (RFC 4648, section 4); or `refused`, the word of its refusal, and `refusal`, the line that says
 /// why. The files are not hashed here: their digests are given.
-pub fn json_report<'a>(
-    alloc: Global,
-    program: &'a str,
-    path: &'a str,
-    bytes: &'a [u8],
-    accepted: &'a AcceptedRelease<'_>,
-    digests: &'a [FileDigest],
-    outcomes: &'a [Result<Measurement, AuditFault>],
-    remarks: &'a [Option<Remark>],
-    pages: u64,
-) -> Result<Vec<u8>, NoMemory>
-    requires { digests.now ≡ map sha256 accepted.now.files }
+pub fn json_report(alloc: Global, given: &Reported<'_, '_>) -> Result<Vec<u8>, NoMemory>
     ensures { IfOk result (λ text. text.items ≡ report_text (record {
-      program = program.now;
-      path = path.now;
-      bytes = bytes.now;
-      paths = accepted.now.release.paths;
-      files = accepted.now.files;
-      launches = accepted.now.release.launches;
-      news = record { outcomes = map seen outcomes.now; remarks = remarks.now };
-      pages = pages;
+      program = given.now.program.now;
+      path = given.now.path.now;
+      bytes = given.now.bytes.now;
+      paths = given.now.accepted.now.release.paths;
+      files = given.now.accepted.now.files;
+      launches = given.now.accepted.now.release.launches;
+      news = record {
+        outcomes = map seen given.now.outcomes.now;
+        remarks = given.now.remarks.now;
+      };
+      pages = given.now.pages;
     })) }
 {
-    report_of(
-        alloc,
-        &Reported {
-            program,
-            path,
-            bytes,
-            accepted,
-            outcomes,
-            remarks,
-            pages,
-        },
-        digests,
-    )
-}
-
-/// The report, with these digests of the release's files.
-fn report_of(
-    alloc: Global,
-    given: &Reported<'_, '_>,
-    digests: &[FileDigest],
-) -> Result<Vec<u8>, NoMemory>
-    requires { digests.now ≡ map sha256 given.now.accepted.now.files }
-    ensures { IfOk result (λ text. text.items ≡ report_text (reported given.now)) }
-{
-    let value = report_value(alloc, given, digests)?;
+    let value = report_value(alloc, given)?;
     json_text(alloc, &value)
 }
 
 /// The report as a JSON value.
 #[tactic(auto, unfolding(crate::specs::ReportJson::report_data))]
-fn report_value(
-    alloc: Global,
-    given: &Reported<'_, '_>,
-    digests: &[FileDigest],
-) -> Result<Value, NoMemory>
-    requires { digests.now ≡ map sha256 given.now.accepted.now.files }
+fn report_value(alloc: Global, given: &Reported<'_, '_>) -> Result<Value, NoMemory>
     ensures { IfOk result (λ v. view v ≡ reported_data (reported given.now)) }
 {
     let mut members = Map::new(alloc);
-    let files = file_values(alloc, given.accepted.loaded(), digests)?;
+    let files = file_values(alloc, given.accepted.loaded(), given.digests)?;
     put_values(alloc, &mut members, "files", files)?;
-    let launches = launch_values(alloc, given, digests)?;
+    let launches = launch_values(alloc, given)?;
     put_values(alloc, &mut members, "launches", launches)?;
     put_manifest(alloc, &mut members, given)?;
     put_count(alloc, &mut members, "pages", given.pages)?;
@@ -140,12 +87,7 @@ fn put_manifest(
 }
 
 /// Each launch with what came of it.
-fn launch_values(
-    alloc: Global,
-    given: &Reported<'_, '_>,
-    digests: &[FileDigest],
-) -> Result<Vec<Value>, NoMemory>
-    requires { digests.now ≡ map sha256 given.now.accepted.now.files }
+fn launch_values(alloc: Global, given: &Reported<'_, '_>) -> Result<Vec<Value>, NoMemory>
     ensures { IfOk result (λ values. map view values.items
         ≡ launches_json given.now.accepted.now.release.paths given.now.accepted.now.files
         (news_of given.now) 0 given.now.accepted.now.release.launches) }
@@ -157,7 +99,7 @@ fn launch_values(
             release: given.accepted.release(),
             launch: &launches[number],
         };
-        values.push(launch_value(alloc, given, shown, number, digests)?)?;
+        values.push(launch_value(alloc, given, shown, number)?)?;
     }
     Ok(values)
 }
@@ -169,17 +111,15 @@ fn launch_value(
     given: &Reported<'_, '_>,
     shown: Shown<'_>,
     number: usize,
-    digests: &[FileDigest],
 ) -> Result<Value, NoMemory>
     requires launch { slice_get given.now.accepted.now.release.launches number
         ≡ Some shown.launch.now }
     requires release { shown.release.now ≡ given.now.accepted.now.release }
-    requires digests { digests.now ≡ map sha256 given.now.accepted.now.files }
     ensures { IfOk result (λ v. view v ≡ launch_json given.now.accepted.now.release.paths
         given.now.accepted.now.files (slice_get (map seen given.now.outcomes.now) number)
         (remark_at given.now.remarks.now number) shown.entry.launch.now) }
 {
-    let items = items_of(alloc, given, shown, number, digests)?;
+    let items = items_of(alloc, given, shown, number)?;
     let mut members = Map::new(alloc);
     put_launch(alloc, &mut members, shown.launch, items)?;
     put_devicetree(alloc, &mut members, given, shown.launch, number)?;
@@ -193,12 +133,10 @@ fn items_of(
     given: &Reported<'_, '_>,
     shown: Shown<'_>,
     number: usize,
-    digests: &[FileDigest],
 ) -> Result<Vec<Value>, NoMemory>
     requires launch { slice_get given.now.accepted.now.release.launches number
         ≡ Some shown.launch.now }
     requires release { shown.release.now ≡ given.now.accepted.now.release }
-    requires digests { digests.now ≡ map sha256 given.now.accepted.now.files }
     ensures { IfOk result (λ values. map view values.items
         ≡ items_at given.now.accepted.now.release.paths given.now.accepted.now.files
         shown.entry.launch.now
@@ -206,7 +144,7 @@ fn items_of(
 {
     let accepted = given.accepted;
     let place = accepted.place(number);
-    items(alloc, shown, accepted.files(), digests, place)
+    items(alloc, shown, accepted.files(), given.digests, place)
 }
 
 /// Adds the digest of the devicetree that the launch of a number edits.

@@ -12,4 +12,4 @@ pub use map_rows::{
     item_rows,
 };
 pub use map_text::map_text;
-pub use refused::{RefusedLaunch, refused_json, refused_text};
+pub use refused::{refused_json, refused_text};

@@ -16,20 +16,11 @@ use launch_json::{Members, json_text, put_text, stated_values, stretch_values};
 use map_rows::{Shown, between, item_rows};
 use map_text::{Lines, push_head, push_ram, push_space, push_stated};
 use refusal::NoMemory;
-use rim_accepted::LaunchReason;
-use rim_manifest::{NamedLaunch, Release};
+use rim_accepted::{LaunchReason, RefusedLaunch};
+use rim_manifest::Release;
 use serde_json::{Map, Value, put};
 use shown_text::{Remark, remark_value};
 use std::alloc::{AllocError, Global};
-
-/// A launch that is refused, why it is refused, and the remark that says so.
-#[derive(Clone, Copy)]
-pub struct RefusedLaunch<'a> {
-    pub launch: &'a NamedLaunch,
-    pub files: &'a [Vec<u8>],
-    pub reason: &'a LaunchReason,
-    pub remark: &'a Remark,
-}
 
 /// The map of a launch that is refused: a line with what it is, its address space as far as it is known, and the line that says why
 /// it is refused. No line but that one has more than 100 columns.
@@ -37,11 +28,12 @@ pub fn refused_text(
     alloc: Global,
     release: &Release,
     refused: &RefusedLaunch<'_>,
+    remark: &Remark,
 ) -> Result<Vec<u8>, NoMemory>
-    ensures { IfOk result (λ text. EndsWithRemark refused.now.remark.now text.items) }
+    ensures { IfOk result (λ text. EndsWithRemark remark.now text.items) }
 {
     let mut text = lines_before(alloc, release, refused)?.into_bytes();
-    refused.remark.push_to(&mut text)?;
+    remark.push_to(&mut text)?;
     text.push(b'\n')?;
     Ok(text)
 }
@@ -52,11 +44,11 @@ fn lines_before(
     release: &Release,
     refused: &RefusedLaunch<'_>,
 ) -> Result<Lines, NoMemory> {
-    let launch = refused.launch;
+    let launch = refused.named;
     let shown = Shown { release, launch };
     let mut text = Lines::new(alloc);
     push_head(alloc, &mut text, launch)?;
-    match refused.reason {
+    match &refused.reason {
         LaunchReason::List { placed, .. } => {
             let rows = item_rows(alloc, launch.launch(), refused.files, placed)?;
             push_space(alloc, &mut text, shown, &rows)?;
@@ -76,13 +68,13 @@ pub fn refused_json(
     alloc: Global,
     release: &Release,
     refused: &RefusedLaunch<'_>,
+    remark: &Remark,
 ) -> Result<Vec<u8>, NoMemory>
-    ensures { IfOk result (λ text. IsRefusedMap release.now.paths refused.now.launch.now
-        (bytes_of_files refused.now.files.now) refused.now.reason.now refused.now.remark.now
-        text.items) }
+    ensures { IfOk result (λ text. IsRefusedMap release.now.paths refused.now.named.now
+        (bytes_of_files refused.now.files.now) refused.now.reason remark.now text.items) }
 {
     let space = shown_space(alloc, release, refused)?;
-    let value = refused_value(alloc, refused, space)?;
+    let value = refused_value(alloc, refused, remark, space)?;
     json_text(alloc, &value)
 }
 
@@ -92,12 +84,12 @@ fn shown_space(
     release: &Release,
     refused: &RefusedLaunch<'_>,
 ) -> Result<Space, NoMemory>
-    ensures { IfOk result (λ space. ShowsSpace release.now.paths refused.now.launch.now
-        (bytes_of_files refused.now.files.now) refused.now.reason.now (seen_space space)) }
+    ensures { IfOk result (λ space. ShowsSpace release.now.paths refused.now.named.now
+        (bytes_of_files refused.now.files.now) refused.now.reason (seen_space space)) }
 {
-    let launch = refused.launch;
+    let launch = refused.named;
     let shown = Shown { release, launch };
-    match refused.reason {
+    match &refused.reason {
         LaunchReason::List { placed, .. } => {
             let rows = item_rows(alloc, launch.launch(), refused.files, placed)?;
             placed_space(alloc, shown, &rows)
@@ -125,15 +117,16 @@ fn space_as_stated(alloc: Global, shown: Shown<'_>) -> Result<Space, NoMemory>
 fn refused_value(
     alloc: Global,
     refused: &RefusedLaunch<'_>,
+    remark: &Remark,
     space: Space,
 ) -> Result<Value, AllocError>
-    ensures { IfOk result (λ v. view v ≡ refused_data refused.now.launch.now (seen_space space)
-        refused.now.remark.now (audit_kind_of (audit_fault_of refused.now.reason.now))) }
+    ensures { IfOk result (λ v. view v ≡ refused_data refused.now.named.now (seen_space space)
+        remark.now (audit_kind_of (audit_fault_of refused.now.reason))) }
 {
     let mut members = Map::new(alloc);
     put_space(alloc, &mut members, space)?;
-    put_head(alloc, &mut members, refused.launch)?;
-    put_refusal(alloc, &mut members, refused)?;
+    put_head(alloc, &mut members, refused.named)?;
+    put_refusal(alloc, &mut members, refused, remark)?;
     Ok(Value::Object(members))
 }
 
@@ -142,14 +135,15 @@ fn put_refusal(
     alloc: Global,
     members: &mut Members,
     refused: &RefusedLaunch<'_>,
+    remark: &Remark,
 ) -> Result<(), AllocError>
     ensures { OnOk result (members_view members.new.entries
         ≡ with_member (codes "refused")
-        (string (audit_kind_of (audit_fault_of refused.now.reason.now)))
-        (with_member (codes "refusal") (remark_json refused.now.remark.now)
+        (string (audit_kind_of (audit_fault_of refused.now.reason)))
+        (with_member (codes "refusal") (remark_json remark.now)
         (members_view members.old.entries))) }
 {
-    let refusal = remark_value(alloc, refused.remark)?;
+    let refusal = remark_value(alloc, remark)?;
     put(members, alloc, "refusal", refusal)?;
-    put_text(alloc, members, "refused", refused.reason.fault().kind())
+    put_text(alloc, members, "refused", refused.fault().kind())
 }

@@ -16,7 +16,7 @@ use Rattle.rim_pages.specs.declared.fault.StartFault.TheVariants.{TooManyPages}
 use Rattle.rim_accepted.specs.Outcomes.{AreOutcomes, IsOutcome}
 use Rattle.rim_accepted.specs.declared.accepted.AcceptedLaunch.{AcceptedLaunch}
 use Rattle.rim_accepted.proofs.AcceptedLaunches.{accepted-is}
-use Rattle.rim_accepted.proofs.OutcomesInTurn.{own-place}
+use Rattle.rim_accepted.proofs.OutcomesInTurn.{own-place, own-refusal}
 use Rattle.rim_accepted.proofs.PagesOfItems.{each-append, item-pages}
 use Rattle.std.specs.List.{All, AllByRecursion, flat_map, range_with_len, slice_get}
 use Rattle.std.proofs.lemmas.Grind.{flat_map-append}
@@ -41,7 +41,7 @@ use Rattle.rim_accepted.specs.Accepted.{accepted_of}
 use Rattle.rim_pages.specs.Pages.{keys_at, launch_keys, page_keys, pages_of, release_pages}
 use Rattle.rim_pages.specs.inside.Ends.{item_ends, launch_ends, outcome_ends, step_ends, source_ends}
 use Rattle.rim_accepted.specs.declared.audit_fault.AuditFault.{AuditFault}
-use Rattle.rim_accepted.specs.declared.reason.LaunchReason.{LaunchReason}
+use Rattle.rim_accepted.specs.declared.refused.RefusedLaunch.{RefusedLaunch}
 
 -- ---- lists
 
@@ -132,15 +132,15 @@ added-keys a old new is =
     ap (flat_map keys_before) is ∙ flat_map-append keys_before old (launch_ends a)
     ∙ ap (λ (ks : List PageKey). flat_map keys_before old ++ ks) (launch-keys-before a)
 
-outcome-keys-before : (files : List (List ℕ)) (l : NamedData) (r : Result AcceptedLaunch LaunchReason) → IsOutcome files l r
+outcome-keys-before : (files : List (List ℕ)) (l : NamedData) (r : Result AcceptedLaunch RefusedLaunch) → IsOutcome files l r
     → flat_map keys_before (outcome_ends r) ≡ launch_keys files l
 outcome-keys-before files l (Ok a) is =
     launch-keys-before a
     ∙ ap (λ (x : NamedData). measured_keys x.launch a.placed) is.0
     ∙ sym (ap (keys_at l.launch) (own-place files l a is))
-outcome-keys-before files l (Err why) is = sym (ap (keys_at l.launch) is.0)
+outcome-keys-before files l (Err refused) is = sym (ap (keys_at l.launch) (own-refusal files l refused is))
 
-keys-of-ends : (files : List (List ℕ)) (ls : List NamedData) (rs : List (Result AcceptedLaunch LaunchReason)) → AreOutcomes files ls rs
+keys-of-ends : (files : List (List ℕ)) (ls : List NamedData) (rs : List (Result AcceptedLaunch RefusedLaunch)) → AreOutcomes files ls rs
     → flat_map keys_before (flat_map outcome_ends rs) ≡ flat_map (launch_keys files) ls
 keys-of-ends files [] [] are = refl
 keys-of-ends files [] (r ∷ rs) are = absurd are
@@ -150,7 +150,7 @@ keys-of-ends files (l ∷ ls) (r ∷ rs) are =
     ∙ ap (λ (ks : List PageKey). ks ++ flat_map keys_before (flat_map outcome_ends rs)) (outcome-keys-before files l r are.0)
     ∙ ap (λ (ks : List PageKey). launch_keys files l ++ ks) (keys-of-ends files ls rs are.1)
 
-pub keys-found : (files : List (List ℕ)) (ls : List NamedData) (rs : List (Result AcceptedLaunch LaunchReason)) (ends : List PageKey)
+pub keys-found : (files : List (List ℕ)) (ls : List NamedData) (rs : List (Result AcceptedLaunch RefusedLaunch)) (ends : List PageKey)
     (ranges seen : List KeyRange)
     → AreOutcomes files ls rs → ends ≡ flat_map outcome_ends rs → flat_map range_keys ranges ≡ rising_keys (flat_map keys_before ends)
     → seen ≡ ranges → flat_map range_keys seen ≡ page_keys files ls

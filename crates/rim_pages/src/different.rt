@@ -14,7 +14,7 @@ use crate::fault::StartFault;
 use crate::measured::{page_count, push_launch};
 use page_jobs::{Blob, KeyRange, Page, PageKey, distinct_ranges};
 use refusal::NoMemory;
-use rim_accepted::{AcceptedLaunch, AcceptedRelease, LaunchReason};
+use rim_accepted::{AcceptedLaunch, AcceptedRelease, RefusedLaunch};
 use rim_desc::Source;
 use std::alloc::{AllocError, Global};
 
@@ -43,7 +43,7 @@ pub fn pages<'a>(
 /// The measured items of the launches that are accepted, each by the key after its last page.
 fn ends(
     alloc: Global,
-    outcomes: &[Result<AcceptedLaunch<'_>, LaunchReason>],
+    outcomes: &[Result<AcceptedLaunch<'_>, RefusedLaunch<'_>>],
 ) -> Result<Vec<PageKey>, AllocError>
     ensures { IfOk result (λ ends. ends.items ≡ flat_map outcome_ends outcomes.now) }
 {
@@ -57,7 +57,7 @@ fn ends(
 /// Adds the measured items of a launch, if it is accepted.
 fn push_outcome(
     ends: &mut Vec<PageKey>,
-    outcome: &Result<AcceptedLaunch<'_>, LaunchReason>,
+    outcome: &Result<AcceptedLaunch<'_>, RefusedLaunch<'_>>,
 ) -> Result<(), AllocError>
     ensures { OnOk result (ends.new.items ≡ ends.old.items ++ outcome_ends outcome.now) }
 {
@@ -72,7 +72,7 @@ fn pages_in<'a>(
     alloc: Global,
     count: usize,
     ranges: &[KeyRange],
-    outcomes: &'a [Result<AcceptedLaunch<'_>, LaunchReason>],
+    outcomes: &'a [Result<AcceptedLaunch<'_>, RefusedLaunch<'_>>],
     files: &'a [Vec<u8>],
 ) -> Result<Vec<Page<'a>>, NoMemory>
     requires { All IsUsable ranges.now }
@@ -113,7 +113,7 @@ fn push_range<'a>(
 /// The bytes of a source of the release: a file, or the devicetree that a launch edited.
 fn source_bytes<'a>(
     files: &'a [Vec<u8>],
-    outcomes: &'a [Result<AcceptedLaunch<'_>, LaunchReason>],
+    outcomes: &'a [Result<AcceptedLaunch<'_>, RefusedLaunch<'_>>],
     source: Source,
 ) -> &'a [u8]
     ensures { result.now ≡ source_bytes (bytes_of_files files.entry.now)
@@ -129,7 +129,7 @@ fn source_bytes<'a>(
 }
 
 /// The devicetree that a launch edited, if it is accepted and has one.
-fn edited_at<'a>(outcome: Option<&'a Result<AcceptedLaunch<'_>, LaunchReason>>) -> &'a [u8]
+fn edited_at<'a>(outcome: Option<&'a Result<AcceptedLaunch<'_>, RefusedLaunch<'_>>>) -> &'a [u8]
     ensures { result.now ≡ edited_at (option_map (λ r. place_of r.now) outcome.entry) }
 {
     match outcome {

@@ -4,12 +4,12 @@
 pub use job_board::JobId;
 pub use job_workers::{FreeGate, Gate};
 pub use rim_accepted::{
-    AcceptedRelease, AuditFault, Files, LoadedLaunch, LoadedRelease, Reasons, Report, Unasked,
+    AcceptedRelease, AuditFault, Files, LoadedLaunch, LoadedRelease, RefusedLaunch, Report,
     a_line_says_what_a_monitor_holds, accept_all, devicetrees_are_measured, placed_devicetree,
 };
 pub use rim_audit::{
     a_trace_shows_what_a_monitor_holds, audit, audit_launches, audit_report, audit_with_gate,
-    listing, listing_or_refusal, trace_or_refusal,
+    list_launch, listing, trace_launch,
 };
 pub use rim_desc::Lanes;
 pub use rim_launch::{Config, Launch};

@@ -46,15 +46,14 @@ use Rattle.rim_report.specs.Report.{measured_of, report_of, report_with}
 use Rattle.rim_accepted.specs.Accepted.{places_of}
 use Rattle.rim_report.specs.Plans.{ArePlans, BeginsWith}
 use Rattle.rim_accepted.specs.Outcomes.{AreOutcomes, IsLaidOut, OutcomesView}
-use Rattle.rim_accepted.specs.Reasons.{audit_fault_of}
 use Rattle.rim_accepted.specs.declared.accepted.AcceptedLaunch.{AcceptedLaunch}
 use Rattle.rim_report.specs.inside.Unknown.{unknown_outcome, with_rims}
 use Rattle.rim_accepted.specs.Lines.{lines_with}
 use Rattle.rim_accepted.specs.declared.audit_fault.AuditFault.{AuditFault}
-use Rattle.rim_accepted.specs.declared.reason.LaunchReason.{LaunchReason}
+use Rattle.rim_accepted.specs.declared.refused.RefusedLaunch.{RefusedLaunch}
 use Rattle.rim_pages.specs.declared.fault.StartFault.TheVariants.{TooManyPages}
-use Rattle.rim_accepted.proofs.AcceptedLaunches.{IsAccepted, accepted-is, refused-rim}
-use Rattle.rim_accepted.proofs.OutcomesInTurn.{own-place}
+use Rattle.rim_accepted.proofs.AcceptedLaunches.{IsAccepted, accepted-is}
+use Rattle.rim_accepted.proofs.OutcomesInTurn.{own-place, own-refusal}
 use Rattle.rim_accepted.proofs.LinesOfLaunches.{own-lines}
 use Rattle.rim_pages.proofs.DifferentPages.{each-measured, files-there}
 
@@ -291,17 +290,18 @@ module _ (files : List (List ℕ)) (r : ReleaseData) (t : TableView)
   unfolding OfEach
   all-have = all-plans files r.launches (λ v. has_all t (keys_of v.links) ≡ true) plan-has
 
-  outcomes-are : (ls : List NamedData) (rs : List (Result AcceptedLaunch LaunchReason)) (plans : List PlanView) (rims : List Measurement)
+  outcomes-are : (ls : List NamedData) (rs : List (Result AcceptedLaunch RefusedLaunch)) (plans : List PlanView) (rims : List Measurement)
       → Later r.launches ls → AreOutcomes files ls rs → ArePlans files ls plans → map (λ m. m.bytes) rims ≡ map (value_in t) plans
       → map seen (with_rims (map unknown_outcome rs) rims) ≡ outcomes_for files ls
   unfolding Later
   outcomes-are [] [] plans rims later are plans_are values = refl
   outcomes-are [] (o ∷ rs) plans rims later are plans_are values = absurd are
   outcomes-are (l ∷ ls) [] plans rims later are plans_are values = absurd are
-  outcomes-are (l ∷ ls) (Err why ∷ rs) plans rims later are plans_are values =
+  outcomes-are (l ∷ ls) (Err refused ∷ rs) plans rims later are plans_are values =
       let others : ArePlans files ls plans =
-      subst (λ (place : Result PlacedData AuditFault). BeginsWith l.launch place (ArePlans files ls) plans) are.0.0 plans_are in
-      ap₂ (λ (o : Result (List ℕ) AuditFault) (os : List (Result (List ℕ) AuditFault)). o ∷ os) (sym (refused-rim l.launch files (audit_fault_of why) are.0.0))
+      subst (λ (place : Result PlacedData AuditFault). BeginsWith l.launch place (ArePlans files ls) plans) (own-refusal files l refused are.0) plans_are in
+      ap₂ (λ (o : Result (List ℕ) AuditFault) (os : List (Result (List ℕ) AuditFault)). o ∷ os)
+      (sym are.0.2.refused)
       (outcomes-are ls rs plans rims (later-next r.launches l ls later) are.1 others values)
   outcomes-are (l ∷ ls) (Ok a ∷ rs) plans rims later are plans_are values =
       by_plans plans rims (subst (λ (place : Result PlacedData AuditFault). BeginsWith l.launch place (ArePlans files ls) plans) place plans_are) values

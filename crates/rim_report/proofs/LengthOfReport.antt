@@ -26,7 +26,7 @@ use Rattle.rim_report.specs.Report.{report_with}
 use Rattle.rim_report.specs.inside.Unknown.{unknown_outcome, with_rims}
 use Rattle.rim_accepted.specs.Lines.{lines_with}
 use Rattle.rim_accepted.specs.declared.audit_fault.AuditFault.{AuditFault}
-use Rattle.rim_accepted.specs.declared.reason.LaunchReason.{LaunchReason}
+use Rattle.rim_accepted.specs.declared.refused.RefusedLaunch.{RefusedLaunch}
 
 -- ---- measurements have 64 bytes
 
@@ -65,7 +65,7 @@ abbrev pub HasSizeWithin : Result Measurement AuditFault → Type 0
 HasSizeWithin (Ok m) = HasSize m
 HasSizeWithin (Err fault) = Unit {0}
 
-pub unknown-size : {X : Type 0} (outcomes : List (Result X LaunchReason)) → AllByRecursion HasSizeWithin (map unknown_outcome outcomes)
+pub unknown-size : {X : Type 0} (outcomes : List (Result X RefusedLaunch)) → AllByRecursion HasSizeWithin (map unknown_outcome outcomes)
 unknown-size [] = tt
 unknown-size (Ok x ∷ outcomes) = (length-zeros 64, unknown-size outcomes)
 unknown-size (Err fault ∷ outcomes) = (tt, unknown-size outcomes)

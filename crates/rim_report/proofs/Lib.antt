@@ -9,3 +9,5 @@ pub mod ChainsAreRims
 pub mod LengthOfReport
 -- Laws: any legal list of events that does all jobs gives the lines of the report
 pub mod LinesOfAnyRun
+-- A digest goes into the slot of its own file, and all slots give the digests of all files
+pub mod DigestsInSlots

@@ -12,9 +12,9 @@ use Rattle.rim_accepted.specs.Accepted.{accepted_of}
 use Rattle.rim_accepted.specs.Outcomes.{AreOutcomes, IsOutcome}
 use Rattle.rim_accepted.specs.declared.accepted.AcceptedLaunch.{AcceptedLaunch}
 use Rattle.rim_accepted.specs.declared.audit_fault.AuditFault.{AuditFault}
-use Rattle.rim_accepted.specs.declared.reason.LaunchReason.{LaunchReason}
+use Rattle.rim_accepted.specs.declared.refused.RefusedLaunch.{RefusedLaunch}
 use Rattle.rim_accepted.proofs.LinesOfLaunches.{one-more}
-use Rattle.rim_accepted.proofs.OutcomesInTurn.{as-many, own-at, own-place}
+use Rattle.rim_accepted.proofs.OutcomesInTurn.{as-many, own-at, own-place, own-refusal}
 use Rattle.rim_report.specs.Plans.{ArePlans, BeginsWith}
 
 -- a plan more at the end
@@ -32,9 +32,9 @@ plans-append files (first ∷ ls) l plans more last are =
     begins-append first.launch (accepted_of first.launch files) (ArePlans files ls) (ArePlans files (ls ++ l ∷ [])) plans more
     (λ vs now. plans-append files ls l vs more last now) are
 
-module _ (files : List (List ℕ)) (ls : List NamedData) (rs : List (Result AcceptedLaunch LaunchReason)) (are : AreOutcomes files ls rs) where
+module _ (files : List (List ℕ)) (ls : List NamedData) (rs : List (Result AcceptedLaunch RefusedLaunch)) (are : AreOutcomes files ls rs) where
   -- a launch that is accepted adds its plan
-  pub plan-added : (i : ℕ) (d : Result AcceptedLaunch LaunchReason) (a : AcceptedLaunch) (v : PlanView) (plans plans' : List PlanView)
+  pub plan-added : (i : ℕ) (d : Result AcceptedLaunch RefusedLaunch) (a : AcceptedLaunch) (v : PlanView) (plans plans' : List PlanView)
       → i < length rs → get_or rs i d ≡ Ok a → IsReadOf a.named.now.launch a.placed v → plans' ≡ plans ++ v ∷ []
       → ArePlans files (take i ls) plans → ArePlans files (take (i + 1) ls) plans'
   plan-added i d a v plans plans' inside is read added so_far =
@@ -49,19 +49,20 @@ module _ (files : List (List ℕ)) (ls : List NamedData) (rs : List (Result Acce
       (subst (ArePlans files (take i ls ++ l ∷ [])) (sym added) (plans-append files (take i ls) l plans (v ∷ []) last so_far))
 
   -- one that is refused adds none
-  pub none-added : (i : ℕ) (d : Result AcceptedLaunch LaunchReason) (plans : List PlanView)
+  pub none-added : (i : ℕ) (d : Result AcceptedLaunch RefusedLaunch) (plans : List PlanView)
       → i < length rs → ((a : AcceptedLaunch) → get_or rs i d ≡ Ok a → ⊥) → ArePlans files (take i ls) plans → ArePlans files (take (i + 1) ls) plans
   none-added i d plans inside not_accepted so_far = by_outcome (get_or rs i d) refl
     where
       own : (l : NamedData) × ((slice_get ls i ≡ Some l) × IsOutcome files l (get_or rs i d))
       own = own-at files ls rs i d are inside
 
-      by_outcome : (r : Result AcceptedLaunch LaunchReason) → get_or rs i d ≡ r → ArePlans files (take (i + 1) ls) plans
+      by_outcome : (r : Result AcceptedLaunch RefusedLaunch) → get_or rs i d ≡ r → ArePlans files (take (i + 1) ls) plans
       by_outcome (Ok a) is = absurd (not_accepted a is)
-      by_outcome (Err why) is =
-          let outcome : IsOutcome files own.0 (Err why) = subst (IsOutcome files own.0) is own.1.1 in
+      by_outcome (Err refused) is =
+          let outcome : IsOutcome files own.0 (Err refused) = subst (IsOutcome files own.0) is own.1.1 in
           let last : BeginsWith own.0.launch (accepted_of own.0.launch files) (λ vs. vs ≡ []) []
-          = subst (λ (place : Result PlacedData AuditFault). BeginsWith own.0.launch place (λ vs. vs ≡ []) []) (sym outcome.0) refl in
+          = subst (λ (place : Result PlacedData AuditFault). BeginsWith own.0.launch place (λ vs. vs ≡ []) [])
+          (sym (own-refusal files own.0 refused outcome)) refl in
           subst (λ (xs : List NamedData). ArePlans files xs plans) (one-more ls i own.0 own.1.0)
           (subst (ArePlans files (take i ls ++ own.0 ∷ [])) (append-nil plans) (plans-append files (take i ls) own.0 plans [] last so_far))
 

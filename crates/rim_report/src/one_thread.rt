@@ -20,7 +20,7 @@ use std::alloc::Global;
 
 /// Returns the report of a release, made on the calling thread without waiting: a line `rim-report 1`; a line `NAME ALGO HEX`
 /// for each launch in the manifest's order, or `NAME refused KIND`; and a line `pages N`. This is the plain form of
-/// `measure_release`, whose report is compared with this one.
+/// `measure_release`, whose report is the same. No program calls it: this is the report of `outcome_alone`.
 pub fn measure_alone(alloc: Global, release: &Release, files: &Files) -> Result<Vec<u8>, StartFault>
     requires { vec_len files.now ≡ length release.now.paths }
     ensures { Answers StartFault.NoMemory (λ text. text.items) result

@@ -3,7 +3,7 @@ ghost use Rattle.std.specs.Prelude.{◌≡◌, IfOk, map, replicate};
 ghost use Rattle.rim_report.specs.inside.Unknown.{unknown_outcome, unknown_rim, with_rims};
 
 use refusal::NoMemory;
-use rim_accepted::{AcceptedLaunch, AuditFault, LaunchReason};
+use rim_accepted::{AcceptedLaunch, AuditFault, RefusedLaunch};
 use rim_desc::Measurement;
 use std::alloc::Global;
 
@@ -13,7 +13,7 @@ pub const UNKNOWN: Measurement = Measurement { bytes: [0; 64] };
 /// What came of each launch, where the measurements of those that are accepted are not known yet.
 pub fn unknown_outcomes(
     alloc: Global,
-    outcomes: &[Result<AcceptedLaunch<'_>, LaunchReason>],
+    outcomes: &[Result<AcceptedLaunch<'_>, RefusedLaunch<'_>>],
 ) -> Result<Vec<Result<Measurement, AuditFault>>, NoMemory>
     ensures { IfOk result (λ found. found.items ≡ map unknown_outcome outcomes.now) }
 {
@@ -25,13 +25,13 @@ pub fn unknown_outcomes(
 }
 
 fn unknown_outcome(
-    outcome: &Result<AcceptedLaunch<'_>, LaunchReason>,
+    outcome: &Result<AcceptedLaunch<'_>, RefusedLaunch<'_>>,
 ) -> Result<Measurement, AuditFault>
     ensures { result ≡ unknown_outcome outcome.now }
 {
     match outcome {
         Ok(_) => Ok(UNKNOWN),
-        Err(reason) => Err(reason.fault()),
+        Err(refused) => Err(refused.fault()),
     }
 }
 

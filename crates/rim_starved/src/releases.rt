@@ -5,18 +5,18 @@ ghost use Rattle.sha2.specs.Sha256.{sha256};
 use crate::calls::ReleaseCall;
 use crate::inputs::{files_of, split};
 use crate::trial::{Fault, Seen, Trial, digest, made, remarks_digest, text_digest, tried};
-use file_digests::{Digested, measure_with_digests};
 use refusal::NoMemory;
 use rim_accepted::accept_with_list;
 use rim_check::{LaunchCheck, check_launches, refusals};
 use rim_desc::{Lanes, Measurement};
-use rim_json::json_report;
-use rim_map::{RefusedLaunch, map_json, map_text, refused_json, refused_text};
+use rim_json::{Reported, json_report};
+use rim_map::{map_json, map_text, refused_json, refused_text};
 use rim_release::{
-    AuditFault, Files, Gate, JobId, LoadedLaunch, LoadedRelease, Outcome, Release, Report,
-    StartFault, Unasked, audit, audit_report, listing, measure_alone, measure_release,
-    placed_devicetree, read_manifest, trace_or_refusal,
+    AuditFault, Files, Gate, JobId, LoadedLaunch, LoadedRelease, Outcome, Release, StartFault,
+    audit, audit_report, listing, measure_alone, measure_release, placed_devicetree, read_manifest,
+    trace_launch,
 };
+use rim_report::{Digested, measure_with_digests};
 use shown_text::{Remark, Word};
 use std::alloc::{AllocError, Global};
 use std::sync::Wait;
@@ -69,21 +69,20 @@ fn first_launch<R: Print + AllocGlobal>(
             tried!(trial, audit(alloc, release, files, 0) => value_digest, AuditFault::NoMemory),
         ReleaseCall::Listing =>
             tried!(trial, listing(alloc, release, files, 0) => text_digest, AuditFault::NoMemory),
-        ReleaseCall::Trace => tried!(trial, traced(alloc, first) => report_digest, NoMemory),
+        ReleaseCall::Trace =>
+            tried!(trial, traced(alloc, first) => text_digest, AuditFault::NoMemory),
         ReleaseCall::MapText => mapped(trial, release, first, false),
         ReleaseCall::MapJson => mapped(trial, release, first, true),
-        _ => tried!(trial, placed(alloc, first) => bytes_digest, AuditFault::NoMemory),
+        _ => tried!(trial, placed_devicetree(alloc, first) => bytes_digest, AuditFault::NoMemory),
     }
 }
 
-/// The trace of a launch, of which nobody asks why it is refused.
-fn traced(alloc: Global, launch: LoadedLaunch<'_>) -> Result<Report, NoMemory> {
-    trace_or_refusal(alloc, Lanes::Four, launch, &mut Unasked)
-}
-
-/// The devicetree of a launch, in the same way.
-fn placed(alloc: Global, launch: LoadedLaunch<'_>) -> Result<Option<Vec<u8>>, AuditFault> {
-    placed_devicetree(alloc, launch, &mut Unasked)
+/// The trace of a launch, or the fault that it is refused with.
+fn traced(alloc: Global, launch: LoadedLaunch<'_>) -> Result<Vec<u8>, AuditFault> {
+    match trace_launch(alloc, Lanes::Four, launch)? {
+        Ok(text) => Ok(text),
+        Err(refused) => Err(refused.fault()),
+    }
 }
 
 /// The map of a launch, accepted or refused.
@@ -102,18 +101,21 @@ fn mapped<R: Print + AllocGlobal>(
                 tried!(trial, map_text(alloc, release, &listed) => text_digest, NoMemory)
             }
         }
-        Ok(Err(reason)) => {
+        Ok(Err(refused)) => {
             let remark = Remark::new(alloc, Word::Fault("refused"));
-            let refused = RefusedLaunch {
-                launch: launch.launch,
-                files: launch.files,
-                reason: &reason,
-                remark: &remark,
-            };
+            let (refused, remark) = (&refused, &remark);
             if is_json {
-                tried!(trial, refused_json(alloc, release, &refused) => text_digest, NoMemory)
+                tried!(
+                    trial,
+                    refused_json(alloc, release, refused, remark) => text_digest,
+                    NoMemory
+                )
             } else {
-                tried!(trial, refused_text(alloc, release, &refused) => text_digest, NoMemory)
+                tried!(
+                    trial,
+                    refused_text(alloc, release, refused, remark) => text_digest,
+                    NoMemory
+                )
             }
         }
         Err(_) => Err(Fault::Input),
@@ -142,17 +144,17 @@ fn reported(alloc: Global, manifest: &[u8], digested: &Digested<'_>) -> Result<V
 {
     let accepted = &digested.outcome.accepted;
     let remarks = refusals(alloc, accepted)?;
-    json_report(
-        alloc,
-        "rim",
-        "manifest.toml",
-        manifest,
+    let reported = Reported {
+        program: "rim",
+        path: "manifest.toml",
+        bytes: manifest,
         accepted,
-        &digested.digests,
-        &digested.outcome.launches,
-        &remarks,
-        digested.outcome.pages,
-    )
+        digests: &digested.digests,
+        outcomes: &digested.outcome.launches,
+        remarks: &remarks,
+        pages: digested.outcome.pages,
+    };
+    json_report(alloc, &reported)
 }
 
 /// Counts the calls when a worker begins, and around jobs.
@@ -267,10 +269,6 @@ fn outcome_digest(outcome: &Outcome<'_>) -> u64 {
         return 0;
     }
     digest(outcome.report.as_slice())
-}
-
-fn report_digest(_alloc: Global, report: &Report) -> Result<u64, AllocError> {
-    Ok(digest(report.text.as_slice()))
 }
 
 fn check_digest(alloc: Global, check: &LaunchCheck) -> Result<u64, AllocError> {

@@ -2,7 +2,7 @@
 use Rattle.std.specs.Prelude.{map}
 use Rattle.rim_accepted.specs.Lines.{seen}
 use Rattle.rim_json.specs.ReportJson.{News, Reported}
-use Rattle.rim_json.specs.declared.report.Reported.{Reported as Given}
+use Rattle.rim_json.specs.declared.reported.Reported.{Reported as Given}
 
 abbrev pub news_of : Given → News
 news_of given = record {

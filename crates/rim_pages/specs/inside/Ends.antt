@@ -11,7 +11,7 @@ use Rattle.ipa_layout.specs.Layout.{PlacedData}
 use Rattle.ipa_layout.specs.declared.placed.PlacedItem.{PlacedItem}
 use Rattle.rim_accepted.specs.declared.accepted.AcceptedLaunch.{AcceptedLaunch}
 use Rattle.launch_plan.specs.Keys.{key_at}
-use Rattle.rim_accepted.specs.declared.reason.LaunchReason.{LaunchReason}
+use Rattle.rim_accepted.specs.declared.refused.RefusedLaunch.{RefusedLaunch}
 
 abbrev pub source_ends : Algo → PlacedItem → Option Source → List PageKey
 source_ends algo item None = []
@@ -31,6 +31,6 @@ abbrev pub launch_ends : AcceptedLaunch → List PageKey
 launch_ends a = flat_map (step_ends a.named.now.launch a.placed) a.named.now.launch.steps
 
 -- a launch that is refused has no measured items
-abbrev pub outcome_ends : Result AcceptedLaunch LaunchReason → List PageKey
+abbrev pub outcome_ends : Result AcceptedLaunch RefusedLaunch → List PageKey
 outcome_ends (Ok a) = launch_ends a
-outcome_ends (Err why) = []
+outcome_ends (Err refused) = []

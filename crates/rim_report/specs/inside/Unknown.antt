@@ -5,15 +5,15 @@ use Rattle.rim_desc.specs.Page.{zeros}
 use Rattle.rim_desc.specs.declared.measurement.Measurement.{Measurement}
 use Rattle.rim_accepted.specs.declared.audit_fault.AuditFault.{AuditFault}
 use Rattle.rim_accepted.specs.Reasons.{audit_fault_of}
-use Rattle.rim_accepted.specs.declared.reason.LaunchReason.{LaunchReason}
+use Rattle.rim_accepted.specs.declared.refused.RefusedLaunch.{RefusedLaunch}
 
 -- a measurement that is not known yet
 abbrev pub unknown_rim : Measurement
 unknown_rim = record { bytes = zeros 64 }
 
 -- what came of a launch, where its measurement is not known yet
-abbrev pub unknown_outcome : {X : Type 0} → Result X LaunchReason → Result Measurement AuditFault
-unknown_outcome outcome = result_map_both (λ accepted. unknown_rim) audit_fault_of outcome
+abbrev pub unknown_outcome : {X : Type 0} → Result X RefusedLaunch → Result Measurement AuditFault
+unknown_outcome outcome = result_map_both (λ accepted. unknown_rim) (λ r. audit_fault_of r.reason) outcome
 
 -- what came of each launch, with other measurements in the place of those, in their order
 abbrev pub with_rims : {M F : Type 0} → List (Result M F) → List M → List (Result M F)

@@ -3,5 +3,5 @@ use Rattle.rim_check.specs.Explained.{AreRefusals}
 use Rattle.rim_check.proofs.refused.refusals.Given as goal
 
 -- the remarks so far
-abbrev pub invariant-loop-i : goal.invariant-loop-i
-invariant-loop-i l = AreRefusals l.accepted.files (take l.i l.launches) l.remarks.items
+abbrev pub invariant-loop-outcome : goal.invariant-loop-outcome
+invariant-loop-outcome l = AreRefusals l.accepted.files (take l.outcome-index l.accepted.release.launches) l.remarks.items

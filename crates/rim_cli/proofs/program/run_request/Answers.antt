@@ -27,8 +27,8 @@ returns-in-Ok-clause-refused g c failed = inr (elim c.deliver-status.ensures.end
   })
 ])
 
-pub returns-clause-refused : goal.returns-clause-refused
-returns-clause-refused g c failed = inl (
+pub returns-in-Err-clause-refused : goal.returns-in-Err-clause-refused
+returns-in-Err-clause-refused g c failed = inl (
   record {
     fault = c.in-Err.fault;
     refused = c.in-Err.ensures.refused;

@@ -2,7 +2,7 @@ use Rattle.std.proofs.Common.{◌∙◌, ◌+◌, List, Vec, Global, Result, ap,
 use Rattle.launch_plan.specs.Links.{PlanView}
 use Rattle.rim_accepted.specs.Outcomes.{AreOutcomes}
 use Rattle.rim_accepted.specs.declared.accepted.AcceptedLaunch.{AcceptedLaunch}
-use Rattle.rim_accepted.specs.declared.reason.LaunchReason.{LaunchReason}
+use Rattle.rim_accepted.specs.declared.refused.RefusedLaunch.{RefusedLaunch}
 use Rattle.rim_report.specs.Plans.{ArePlans}
 use Rattle.rim_report.proofs.PlansInTurn.{all-plans-added, none-added, plan-added}
 use Rattle.rim_report.proofs.plans.accepted_plans.Goals as goal
@@ -11,7 +11,7 @@ use Rattle.rim_report.proofs.plans.accepted_plans.Goals.{in-Ok+in_ok-plan+in_ok-
 pub loop-outcome-preserved : goal.loop-outcome-preserved
 loop-outcome-preserved c =
     let v = c.args.accepted.now in
-    let rs : List (Result AcceptedLaunch LaunchReason) = c.outcomes-outcome-items.result.now in
+    let rs : List (Result AcceptedLaunch RefusedLaunch) = c.outcomes-outcome-items.result.now in
     let are : AreOutcomes v.files v.release.launches rs
     = subst (AreOutcomes v.files v.release.launches) (sym c.outcomes-outcome-items.ensures.value) c.outcomes-outcome-items.ensures.own.2 in
     elim c.match-outcome.branch [
@@ -28,7 +28,7 @@ loop-outcome-preserved c =
 pub returns : goal.returns
 returns c =
     let v = c.args.accepted.now in
-    let rs : List (Result AcceptedLaunch LaunchReason) = c.outcomes-outcome-items.result.now in
+    let rs : List (Result AcceptedLaunch RefusedLaunch) = c.outcomes-outcome-items.result.now in
     let are : AreOutcomes v.files v.release.launches rs
     = subst (AreOutcomes v.files v.release.launches) (sym c.outcomes-outcome-items.ensures.value) c.outcomes-outcome-items.ensures.own.2 in
     all-plans-added v.files v.release.launches rs are c.loop-outcome.outcome-index c.loop-outcome.plans.items

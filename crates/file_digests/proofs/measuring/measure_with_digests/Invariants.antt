@@ -1,6 +1,0 @@
-use Rattle.ipa_layout.specs.Files.{bytes_of_files}
-use Rattle.file_digests.proofs.measuring.measure_with_digests.Given as goal
-
--- the run's own files
-abbrev pub ghosts-run : goal.ghosts-run
-ghosts-run g a = record { files = bytes_of_files a.files.now.items }

@@ -1,8 +1,0 @@
-use Rattle.file_digests.proofs.DigestsInSlots.{digest-made}
-use Rattle.file_digests.proofs.task.FileTask.hash.Goals as goal
-
-pub invariant_of-result : goal.invariant_of-result
-invariant_of-result g c =
-    let task = c.args.self in record {
-      own = digest-made g.L.FilesOfRun.files task.number task.bytes.now c.digest.result task.own c.digest.ensures;
-    }

@@ -1,4 +1,0 @@
-pub mod Codes
-pub mod Held
-pub mod Written
-pub mod Ends
